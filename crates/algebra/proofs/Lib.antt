@@ -1,0 +1,6 @@
+pub mod Laws
+pub mod Ring
+pub mod Order
+pub mod Size
+pub mod Machine
+pub mod Sum

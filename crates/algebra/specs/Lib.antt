@@ -1,0 +1,3 @@
+pub mod Order
+pub mod Size
+pub mod Sum

@@ -1,0 +1,5 @@
+pub mod Polynomials
+pub mod Orient
+pub mod Circle
+pub mod Convex
+pub mod Line

@@ -1,0 +1,4 @@
+pub mod Points
+pub mod Determinants
+pub mod Places
+pub mod Cases
