@@ -127,6 +127,15 @@ backs-same w k (x ∷ xs) h t = ap₂ (λ (y : ℤ) (ys : List ℤ). y ∷ ys) (
 pub backs-small : (w : Width) (k : ℕ) (ρ : List ℤ) → Small k ρ → T (ltb k (2 ^ hbits w)) → Small k (backs w ρ)
 backs-small w k ρ h t = subst (λ (xs : List ℤ). Small k xs) (sym (backs-same w k ρ h t)) h
 
+-- each fits the width
+abbrev pub Fit : Width → List ℤ → Type 0
+Fit w [] = Unit {0}
+Fit w (x ∷ xs) = SFits w x × Fit w xs
+
+pub backs-fit : (w : Width) (ρ : List ℤ) → Fit w ρ → backs w ρ ≡ ρ
+backs-fit w [] h = refl
+backs-fit w (x ∷ xs) h = ap₂ (λ (y : ℤ) (ys : List ℤ). y ∷ ys) (toZ-ofZ (h .0)) (backs-fit w xs (h .1))
+
 -- a call returned r, the value of e at arguments that went through bits of width w; r is returned, through bits of width v
 pub passed : (w v : Width) (k : ℕ) (ρ : List ℤ) → Small k ρ → T (ltb k (2 ^ hbits w)) → (e : Expr) → T (ltb (size e (all k ρ)) (2 ^ hbits v)) → (r : ℤ) → r ≡ eval e (backs w ρ) → back v r ≡ eval e ρ
 passed w v k ρ h t e s r p =

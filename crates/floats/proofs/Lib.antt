@@ -1,0 +1,4 @@
+pub mod Zero
+pub mod Exact
+pub mod Bounded
+pub mod Half

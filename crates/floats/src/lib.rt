@@ -1,0 +1,1 @@
+// f64 arithmetic on whole numbers: definitions (specs/) and laws (proofs/), and no code.
