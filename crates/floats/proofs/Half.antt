@@ -160,4 +160,3 @@ product-low K E (fin s m e) n i h =
     rw (v .0)
     (rounded-low (K * 1 * (m * up e)) (2 ^ suc E * down e) (mul-pos (pow-pos (suc E)) (down-pos e))
     (le-trans (le-of-eq (ap (λ (i : ℕ). K * 1 * i * 2) q ∙ ap (λ (i : ℕ). i * (suc n * down e) * 2) (mul-one K) ∙ simp (mul-assoc, mul-comm, mul-left-comm))) (mul-le-mul-right (down e) h)))
-

@@ -5,19 +5,13 @@ use native.Mathlib.Nat.{zero-lt-suc, lt-irrefl, le-of-eq, lt-of-lt-of-le}
 use mathlib.Core.Bool.{Bool, true, false, true≢false, false≢true}
 use lib.IntN.{ℤ, pos, negsuc}
 use lib.Signed.{ltZ}
-use mir.Syntax.{w32}
 use lib.Ieee.{Float, nan, inf, fin, up, down, lt}
 use lib.Ieee.Fits.{up-pos, down-pos}
 use borrow.Author.Tests.{lt-ltb, le-ltb}
 use Rattle.floats.specs.Whole.{signed, Is}
 use Rattle.floats.proofs.Zero.{O, above-zero, below-zero}
 use Rattle.floats.proofs.Half.{no-size, no-number}
-use Rattle.algebra.proofs.Machine.{back}
-use Rattle.signs.specs.Signs.{signZ, signF, number}
-use Rattle.signs.specs.Answers.{wholeNumber}
-use Rattle.signs.specs.declared.WholeSign.{WholeSign}
-use Rattle.signs.specs.declared.WholeSign.the-variants.{Known, OutOfRange}
-use Rattle.signs.specs.declared.Sign.{Sign}
+use Rattle.signs.specs.Signs.{signZ, signF}
 use Rattle.signs.specs.declared.Sign.the-variants.{Neg, Zero, Pos}
 
 -- ---- the sign
@@ -84,16 +78,3 @@ sign-is (fin true (suc m) e) z (zero, pa, pz) = absurd (lt-irrefl 0 (lt-of-lt-of
 sign-is (fin true (suc m) e) z (suc a, pa, pz) = sym (ap signZ pz)
 sign-is (fin false (suc m) e) z (zero, pa, pz) = absurd (lt-irrefl 0 (lt-of-lt-of-le (zero-lt-suc m) (le-of-eq (no-size (suc m) (up e) 0 (down e) (up-pos e) pa refl))))
 sign-is (fin false (suc m) e) z (suc a, pa, pz) = sym (ap signZ pz)
-
--- ---- an answer's number, through bits
-pub number-read : {z : ℤ} (s : Sign) → z ≡ number s → back w32 z ≡ number s
-number-read {z} s e = ap (back w32) e ∙ same s
-  where
-    same : (s : Sign) → back w32 (number s) ≡ number s
-    same Neg = refl
-    same Zero = refl
-    same Pos = refl
-
-pub whole-read : {z : ℤ} (a : WholeSign) → z ≡ wholeNumber a → back w32 z ≡ wholeNumber a
-whole-read (Known s) e = number-read s e
-whole-read OutOfRange e = ap (back w32) e

@@ -2,8 +2,6 @@
 //
 // The original is robust/exact/mod.rs (`Sign`), filtered.rs and intpred.rs; document 01, sections "Signs" and "Float points and the
 // float tier", says what each call answers. Every promise is over definitions of specs/: Signs, Answers, Filter, Intake, Parts.
-pub mod exports;
-
 ghost use mathlib.Core.Path.{_≡_};
 ghost use mathlib.Core.Bool.{_&&_};
 ghost use mathlib.Core.List.{[], _∷_};
@@ -115,7 +113,11 @@ fn all_within(ax: i32, ay: i32, bx: i32, by: i32, cx: i32, cy: i32) -> bool
     ensures { λ r. ⌜ r ≡ within limit (at ax ay) && within limit (at bx by) && within limit (at cx cy) ⌝ }
 {
     if within(ax, ay) {
-        if within(bx, by) { within(cx, cy) } else { false }
+        if within(bx, by) {
+            within(cx, cy)
+        } else {
+            false
+        }
     } else {
         false
     }
@@ -171,7 +173,16 @@ fn circle_work(ax: i32, ay: i32, bx: i32, by: i32, cx: i32, cy: i32, dx: i32, dy
 }
 
 // The circle sign of a, b, c and d: for counterclockwise a, b, c, positive means that d is strictly inside their circle.
-pub fn circle_sign(ax: i32, ay: i32, bx: i32, by: i32, cx: i32, cy: i32, dx: i32, dy: i32) -> WholeSign
+pub fn circle_sign(
+    ax: i32,
+    ay: i32,
+    bx: i32,
+    by: i32,
+    cx: i32,
+    cy: i32,
+    dx: i32,
+    dy: i32,
+) -> WholeSign
     ensures { λ r. ⌜ r ≡ circleAnswer limit (at ax ay) (at bx by) (at cx cy) (at dx dy) ⌝ }
 {
     if all_within(ax, ay, bx, by, cx, cy) {

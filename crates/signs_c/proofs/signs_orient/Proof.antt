@@ -6,10 +6,10 @@ use mir.Syntax.{w32}
 use Rattle.algebra.proofs.Ring.{look}
 use Rattle.algebra.proofs.Machine.{Fit, backs-fit}
 use Rattle.plane.specs.Points.{at}
 use Rattle.signs.specs.Answers.{limit, orientAnswer, wholeNumber}
-use Rattle.signs.proofs.Signed.{whole-read}
-use Rattle.signs.proofs.exports.signs_orient.Statement.{statement}
-use Rattle.signs.proofs.exports.signs_orient.Tie as tie
+use Rattle.signs_c.proofs.Numbers.{whole-read}
+use Rattle.signs_c.proofs.signs_orient.Statement.{statement}
+use Rattle.signs_c.proofs.signs_orient.Tie as tie
 
 abbrev ρ : tie.Start → List ℤ
 ρ c = c .args .ax ∷ c .args .ay ∷ c .args .bx ∷ c .args .by ∷ c .args .cx ∷ c .args .cy ∷ []

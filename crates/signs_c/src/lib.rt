@@ -1,12 +1,18 @@
-// The calls of this crate for programs in other languages, by numbers alone.
+// The calls of crate signs for programs in other languages, by numbers alone: the static library that the comparison with the original
+// links.
 ghost use mathlib.Core.Path.{_≡_};
 ghost use Rattle.plane.specs.Points.{at};
 ghost use Rattle.signs.specs.Signs.{signF, number};
 ghost use Rattle.signs.specs.Answers.{limit, orientAnswer, circleAnswer, wholeNumber};
 ghost use Rattle.signs.specs.Intake.{intakeOf, intakeNumber, intakeLeaves};
 ghost use Rattle.signs.specs.Parts.{decompOf, isFinite, mantissaOr, exponentOr};
 ghost use Rattle.signs.specs.Filter.{vec, orientFilter, circleF, filterNumber};
-use crate::{Dyadic, Filtered, Intake, Sign, Vec2, WholeSign};
+use signs::Dyadic;
+use signs::Filtered;
+use signs::Intake;
+use signs::Sign;
+use signs::Vec2;
+use signs::WholeSign;
 
 // -1, 0 or 1
 #[no_mangle]
@@ -30,15 +36,24 @@ fn number_of(answer: WholeSign) -> i32
 pub extern "C" fn signs_orient(ax: i32, ay: i32, bx: i32, by: i32, cx: i32, cy: i32) -> i32
     ensures { λ r. ⌜ r ≡ wholeNumber (orientAnswer limit (at ax ay) (at bx by) (at cx cy)) ⌝ }
 {
-    number_of(crate::orient_sign(ax, ay, bx, by, cx, cy))
+    number_of(signs::orient_sign(ax, ay, bx, by, cx, cy))
 }
 
 // -1, 0, 1, or 2 for out of range
 #[no_mangle]
-pub extern "C" fn signs_circle(ax: i32, ay: i32, bx: i32, by: i32, cx: i32, cy: i32, dx: i32, dy: i32) -> i32
+pub extern "C" fn signs_circle(
+    ax: i32,
+    ay: i32,
+    bx: i32,
+    by: i32,
+    cx: i32,
+    cy: i32,
+    dx: i32,
+    dy: i32,
+) -> i32
     ensures { λ r. ⌜ r ≡ wholeNumber (circleAnswer limit (at ax ay) (at bx by) (at cx cy) (at dx dy)) ⌝ }
 {
-    number_of(crate::circle_sign(ax, ay, bx, by, cx, cy, dx, dy))
+    number_of(signs::circle_sign(ax, ay, bx, by, cx, cy, dx, dy))
 }
 
 // 0 with the whole number, or 1 for not finite, 2 for too large, 3 for a fraction, and then the number stays
@@ -46,7 +61,7 @@ pub extern "C" fn signs_circle(ax: i32, ay: i32, bx: i32, by: i32, cx: i32, cy: 
 pub extern "C" fn signs_take_in(v: f64, whole: &mut i32) -> i32
     ensures { λ r. ⌜ (r ≡ intakeNumber (intakeOf v)) × (now (whole .exit) ≡ intakeLeaves (intakeOf v) (now (whole .entry))) ⌝ }
 {
-    let answer = crate::take_in(v);
+    let answer = signs::take_in(v);
     match answer {
         Intake::Whole(z) => {
             *whole = z;
@@ -63,7 +78,7 @@ pub extern "C" fn signs_take_in(v: f64, whole: &mut i32) -> i32
 pub extern "C" fn signs_decomp(v: f64, m: &mut i64, e: &mut i32) -> bool
     ensures { λ r. ⌜ (r ≡ isFinite (decompOf v)) × (now (m .exit) ≡ mantissaOr (decompOf v) (now (m .entry))) × (now (e .exit) ≡ exponentOr (decompOf v) (now (e .entry))) ⌝ }
 {
-    let answer = crate::decomp(v);
+    let answer = signs::decomp(v);
     match answer {
         Dyadic::Parts(mantissa, exponent) => {
             *m = mantissa;
@@ -79,7 +94,10 @@ pub extern "C" fn signs_decomp(v: f64, m: &mut i64, e: &mut i32) -> bool
 pub extern "C" fn signs_orient2d_filter(ax: f64, ay: f64, bx: f64, by: f64, cx: f64, cy: f64) -> i32
     ensures { λ r. ⌜ r ≡ filterNumber (orientFilter (vec ax ay) (vec bx by) (vec cx cy)) ⌝ }
 {
-    let answer = crate::orient2d_filter(Vec2 { x: ax, y: ay }, Vec2 { x: bx, y: by }, Vec2 { x: cx, y: cy });
+    let a = Vec2 { x: ax, y: ay };
+    let b = Vec2 { x: bx, y: by };
+    let c = Vec2 { x: cx, y: cy };
+    let answer = signs::orient2d_filter(a, b, c);
     match answer {
         Filtered::Sure(s) => s.as_i32(),
         Filtered::Unsure => 2,
@@ -87,8 +105,21 @@ pub extern "C" fn signs_orient2d_filter(ax: f64, ay: f64, bx: f64, by: f64, cx: 
 }
 
 #[no_mangle]
-pub extern "C" fn signs_incircle_det(ax: f64, ay: f64, bx: f64, by: f64, cx: f64, cy: f64, dx: f64, dy: f64) -> f64
+pub extern "C" fn signs_incircle_det(
+    ax: f64,
+    ay: f64,
+    bx: f64,
+    by: f64,
+    cx: f64,
+    cy: f64,
+    dx: f64,
+    dy: f64,
+) -> f64
     ensures { λ r. ⌜ r ≡ circleF (vec ax ay) (vec bx by) (vec cx cy) (vec dx dy) ⌝ }
 {
-    crate::incircle_det(Vec2 { x: ax, y: ay }, Vec2 { x: bx, y: by }, Vec2 { x: cx, y: cy }, Vec2 { x: dx, y: dy })
+    let a = Vec2 { x: ax, y: ay };
+    let b = Vec2 { x: bx, y: by };
+    let c = Vec2 { x: cx, y: cy };
+    let d = Vec2 { x: dx, y: dy };
+    signs::incircle_det(a, b, c, d)
 }

@@ -1,9 +1,9 @@
 use borrow.Author.Needs.{needs}
 use mathlib.Core.Path.{ap, _∙_}
 use Rattle.signs.specs.Signs.{number}
-use Rattle.signs.proofs.Signed.{number-read}
-use Rattle.signs.proofs.exports.signs_of_f64.Statement.{statement}
-use Rattle.signs.proofs.exports.signs_of_f64.Tie as tie
+use Rattle.signs_c.proofs.Numbers.{number-read}
+use Rattle.signs_c.proofs.signs_of_f64.Statement.{statement}
+use Rattle.signs_c.proofs.signs_of_f64.Tie as tie
 
 returns : tie.Need-returns
 returns c = number-read (c .before .of-f64 .result) (c .as-i32 .ensures) ∙ ap number (c .before .of-f64 .ensures)

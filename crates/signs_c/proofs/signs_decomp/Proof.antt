@@ -4,10 +4,10 @@ use lib.IntN.{ℤ}
 use mir.Syntax.{w32, w64}
 use mir.Facts.{toZ-ofZ}
 use mir.Val.{SFits}
 use Rattle.signs.specs.Parts.{isFinite, mantissaOr, exponentOr}
 use Rattle.signs.specs.declared.Dyadic.{Dyadic}
-use Rattle.signs.proofs.exports.signs_decomp.Statement.{statement}
-use Rattle.signs.proofs.exports.signs_decomp.Tie as tie
+use Rattle.signs_c.proofs.signs_decomp.Statement.{statement}
+use Rattle.signs_c.proofs.signs_decomp.Tie as tie
 
 returns : tie.Need-returns
 returns c =

@@ -1,9 +1,9 @@
 use borrow.Author.Needs.{needs}
 use mathlib.Core.Path.{sym, ap, _∙_}
 use Rattle.signs.specs.Answers.{wholeNumber}
-use Rattle.signs.proofs.Signed.{number-read}
-use Rattle.signs.proofs.exports.number_of.Statement.{statement}
-use Rattle.signs.proofs.exports.number_of.Tie as tie
+use Rattle.signs_c.proofs.Numbers.{number-read}
+use Rattle.signs_c.proofs.number_of.Statement.{statement}
+use Rattle.signs_c.proofs.number_of.Tie as tie
 
 returns : tie.Need-returns
 returns c = number-read (c .before .before .answer .given .0 .0) (c .as-i32 .ensures) ∙ sym (ap wholeNumber (c .before .before .answer .given .1))

@@ -1,9 +1,9 @@
 use borrow.Author.Needs.{needs}
 use mathlib.Core.Path.{sym, ap, _∙_}
 use Rattle.signs.specs.Filter.{filterNumber}
-use Rattle.signs.proofs.Signed.{number-read}
-use Rattle.signs.proofs.exports.signs_orient2d_filter.Statement.{statement}
-use Rattle.signs.proofs.exports.signs_orient2d_filter.Tie as tie
+use Rattle.signs_c.proofs.Numbers.{number-read}
+use Rattle.signs_c.proofs.signs_orient2d_filter.Statement.{statement}
+use Rattle.signs_c.proofs.signs_orient2d_filter.Tie as tie
 
 returns : tie.Need-returns
 returns c =
