@@ -3,3 +3,15 @@ pub mod Orient
 pub mod Circle
 pub mod Convex
 pub mod Line
+pub mod Sign
+pub mod Crossing
+pub mod Base
+pub mod Halfedges
+pub mod Near
+pub mod Count
+pub mod Mesh
+pub mod Cover
+pub mod Inner
+pub mod Test
+pub mod Tiles
+pub mod Check

@@ -1,4 +1,10 @@
 pub mod Points
 pub mod Determinants
 pub mod Places
+pub mod Inside
+pub mod Base
+pub mod Halfedges
+pub mod Mesh
+pub mod Cover
+pub mod Tiles
 pub mod Cases

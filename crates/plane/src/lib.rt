@@ -1,1 +1,1 @@
-// Points, orientation, circles and places of the plane: definitions (specs/) and their laws (proofs/), and no code.
+// Points, orientation, circles, places and tilings of the plane: definitions (specs/) and their laws (proofs/), and no code.
