@@ -1,3 +1,4 @@
 pub mod Order
 pub mod Size
 pub mod Sum
+pub mod Tests

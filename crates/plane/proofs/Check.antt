@@ -17,8 +17,9 @@ use Rattle.plane.specs.Base.{Side, s0, s1, s2, next, On, Within, baseAre
 use Rattle.plane.specs.Halfedges.{nxt}
 use Rattle.plane.specs.Cover.{StrictlyIn, Clear, One}
 use Rattle.plane.specs.Tiles.{OnSide, tripleArea, Tiles}
-use Rattle.plane.proofs.Sign.{posb, eqZ}
-use Rattle.plane.proofs.Test.{Reads, reads-as, reads-eq, reads-eqZ, reads-pos, reads-and, reads-or, reads-if, reads-not, reads-all, allTo, anyTo}
+use Rattle.algebra.specs.Tests.{posb, eqZ}
+use Rattle.algebra.specs.Tests.{allTo, anyTo}
+use Rattle.plane.proofs.Test.{Reads, reads-as, reads-eq, reads-eqZ, reads-pos, reads-and, reads-or, reads-if, reads-not, reads-all}
 use Rattle.plane.proofs.Tiles.{reverseb, reads-reverse, tiles-one}
 
 -- ---- rule 2

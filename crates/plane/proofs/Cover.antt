@@ -20,7 +20,8 @@ use Rattle.plane.specs.Mesh.{Mesh, Covers}
 use Rattle.plane.specs.Cover.{InClosed, StrictlyIn, Clear, One, Covered}
 use Rattle.plane.proofs.Polynomials.{PtE, orientE, lineE, by-q3}
 use Rattle.plane.proofs.Orient.{orient-cyc, thin-aab}
-use Rattle.plane.proofs.Sign.{posb, posb-yes, posb-pos, ind, and-1, and-2, nn-strict, nn-cancel}
+use Rattle.algebra.specs.Tests.{posb}
+use Rattle.plane.proofs.Sign.{posb-yes, posb-pos, ind, and-1, and-2, nn-strict, nn-cancel}
 use Rattle.plane.proofs.Crossing.{inside}
 use Rattle.plane.proofs.Halfedges.{nxt0, nxt1, nxt2, third, third1, third2}
 use Rattle.plane.proofs.Near.{near, tilt, near-pos, near-back, near-line, near-above, maxTo, maxTo-le, pos-num}

@@ -14,8 +14,10 @@ use Rattle.plane.specs.Determinants.{orient}
 use Rattle.plane.specs.Places.{Place, line}
 use Rattle.plane.proofs.Polynomials.{PtE, orientE, lineE, by-q2, by-q3, by-q4}
 use Rattle.plane.proofs.Line.{line-swap, line-sum}
-use Rattle.plane.proofs.Sign.{posb, posb-yes, posb-pos, posb-no, posb-neg, sg, sg-pos, sg-mul, sg-add, sg-zero, ind, not-posb}
-use Rattle.plane.proofs.Sign.{eqB, eqB-eq, eqZ, eqZ-eq, and-1, and-2}
+use Rattle.algebra.specs.Tests.{posb}
+use Rattle.plane.proofs.Sign.{posb-yes, posb-pos, posb-no, posb-neg, sg, sg-pos, sg-mul, sg-add, sg-zero, ind, not-posb}
+use Rattle.algebra.specs.Tests.{eqZ}
+use Rattle.plane.proofs.Sign.{eqB, eqB-eq, eqZ-eq, and-1, and-2}
 
 -- ---- by the signs alone
 

@@ -5,15 +5,12 @@ use mathlib.Core.Bool.{Bool, true, false, not, cond}
 use lib.Dec.{T, eqb, eqb→eq, eqb-refl}
 use lib.IntN.{ℤ, pos, negsuc, _+ℤ_, _*ℤ_, negℤ, negℤ-negℤ, negℤ-+ℤ, +ℤ-invl}
 use lib.Signed.{ltZ, ltZ-yes}
+use Rattle.algebra.specs.Tests.{posb, eqZ}
 use Rattle.algebra.specs.Order.{Pos, NonNeg}
 use Rattle.algebra.proofs.Laws.{neg-*ℤ, *ℤ-neg}
 use Rattle.algebra.proofs.Ring.{and}
 use Rattle.algebra.proofs.Order.{pos-by, nn-by, nn-pos, pos-nn, pos*pos, pos+pos, pos+nn, not-both, not-zero, Sign, is-pos, is-neg, is-zero, sign}
 use Rattle.algebra.proofs.Sum.{by-bool}
-
--- The number is positive, as a test.
-abbrev pub posb : ℤ → Bool
-posb z = ltZ (pos 0) z
 
 -- This is z, or its negation.
 abbrev pub sg : Bool → ℤ → ℤ
@@ -69,13 +66,6 @@ eqB-eq true true e = refl
 eqB-eq true false e = sym e
 eqB-eq false true e = e
 eqB-eq false false e = refl
-
--- Two numbers are equal, as a test.
-abbrev pub eqZ : ℤ → ℤ → Bool
-eqZ (pos m) (pos n) = eqb m n
-eqZ (pos m) (negsuc n) = false
-eqZ (negsuc m) (pos n) = false
-eqZ (negsuc m) (negsuc n) = eqb m n
 
 pub eqZ-eq : (a b : ℤ) → T (eqZ a b) → a ≡ b
 eqZ-eq (pos m) (pos n) t = ap pos (eqb→eq m n t)

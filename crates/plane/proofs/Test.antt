@@ -11,7 +11,8 @@ use lib.Dec.{T, eqb, eqb→eq, eqb-refl}
 use lib.IntN.{ℤ}
 use lib.Signed.{ltZ-yes}
 use Rattle.algebra.specs.Order.{Pos}
-use Rattle.plane.proofs.Sign.{posb, eqZ, eqZ-eq, eqZ-refl}
+use Rattle.algebra.specs.Tests.{posb, eqZ, allTo, anyTo}
+use Rattle.plane.proofs.Sign.{eqZ-eq, eqZ-refl}
 
 -- The test holds exactly where the statement does.
 pub record Reads (b : Bool) (A : Type 0) : Type 0 where
@@ -56,14 +57,6 @@ reads-not {a = true} r = record { says = λ t. absurd t; shows = λ f. f (r .say
 reads-not {a = false} r = record { says = λ t x. r .shows x; shows = λ f. tt }
 
 -- ---- every number below n, and some number below n
-
-unfoldable pub allTo : ℕ → (ℕ → Bool) → Bool
-allTo zero f = true
-allTo (suc n) f = allTo n f && f n
-
-unfoldable pub anyTo : ℕ → (ℕ → Bool) → Bool
-anyTo zero f = false
-anyTo (suc n) f = anyTo n f || f n
 
 pub reads-all : (n : ℕ) {f : ℕ → Bool} {A : ℕ → Type 0} → ((i : ℕ) → Reads (f i) (A i)) → Reads (allTo n f) ((i : ℕ) → i < n → A i)
 unfolding allTo

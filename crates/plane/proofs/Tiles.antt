@@ -18,7 +18,8 @@ use Rattle.plane.specs.Tiles.{OnSide, Reverse, Tiles}
 use Rattle.plane.proofs.Halfedges.{nxt0, nxt1, nxt2}
 use Rattle.plane.proofs.Cover.{inside-of, covered}
 use Rattle.plane.proofs.Inner.{disjoint}
-use Rattle.plane.proofs.Test.{Reads, reads-as, reads-and, reads-eq, reads-any, anyTo, decided}
+use Rattle.algebra.specs.Tests.{anyTo}
+use Rattle.plane.proofs.Test.{Reads, reads-as, reads-and, reads-eq, reads-any, decided}
 
 -- ---- the partner of a half-edge
 

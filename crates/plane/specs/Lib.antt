@@ -7,4 +7,3 @@ pub mod Halfedges
 pub mod Mesh
 pub mod Cover
 pub mod Tiles
-pub mod Cases

@@ -1,0 +1,7 @@
+pub mod Answers
+pub mod Data
+pub mod Refusals
+pub mod Rules
+pub mod Verdicts
+pub mod Meaning
+pub mod Cases
