@@ -26,8 +26,9 @@ use Rattle.tables.specs.declared.Lowest.{Lowest}
 use Rattle.tables.specs.declared.Lowest.the-variants.{At, Nowhere}
 use Rattle.tables.specs.Answers.{Paper, yes as good, refuses, breaks, row, rowAt, rule, orElse, lowest}
 use Rattle.tables.specs.Data.{pointCount, pairCount, point, endA, endB, clockwise, base, same}
-use Rattle.tables.specs.Refusals.{badCounts, far, noArea, rightOf, outside, again, badPair, inSegment, blocked, crosses, crossing, rows8to10, rows4to10, rows}
-use Rattle.tables.specs.Verdicts.{andThen}
+use Rattle.tables.specs.Refusals.{badCounts, shortWork, far, noArea, rightOf, outside, again, badPair, inSegment, blocked, crosses, crossing, rows8to10, rows4to10, rows}
+use Rattle.tables.specs.Rules.{rule1, rule2, rule3, rule4, rule5, rule6, rule7, rule8}
+use Rattle.tables.specs.Verdicts.{andThen, refusals, rules, verdict}
 
 -- ---- tests
 
@@ -281,7 +282,7 @@ module _ {odd short : Bool} {ps : List ℤ} {qs : List ℕ} (r : Silent odd shor
   unfolding point
   near i l =
       let p = and-true (leb (natAbs (getD ps (2 * i) (pos 0))) limit) (leb (natAbs (getD ps (2 * i + 1) (pos 0))) limit)
-          (not-false (within limit (point ps i)) (r .row4 i l)) in
+      (not-false (within limit (point ps i)) (r .row4 i l)) in
       (leb-true (natAbs (getD ps (2 * i) (pos 0))) limit (p .0), leb-true (natAbs (getD ps (2 * i + 1) (pos 0))) limit (p .1))
 
   pub coordinates : (i : ℕ) → natAbs (getD ps i (pos 0)) ≤ limit
@@ -373,3 +374,46 @@ module _ {odd short : Bool} {ps : List ℤ} {qs : List ℕ} (r : Silent odd shor
       crosses (point ps (endA qs j)) (point ps (endB qs j)) (point ps (endA qs k)) (point ps (endB qs k)) ≡ false
   uncrossed k j l m =
       any-false k (λ j. crosses (point ps (endA qs j)) (point ps (endB qs j)) (point ps (endA qs k)) (point ps (endB qs k))) (r .row10 k l) j m
+
+-- ---- an accepted list: no row refuses, and every rule holds
+
+pub record Accepted (ps : List ℤ) (qs xs : List ℕ) (work : ℕ) : Type 0 where
+  pub rows-pass : Silent (not (eqb (length xs % 3) 0)) (shortWork (pointCount ps) work) ps qs
+  pub keeps1 : rule1 ps xs ≡ true
+  pub keeps2 : rule2 xs ≡ true
+  pub keeps3 : rule3 ps xs ≡ true
+  pub keeps4 : rule4 ps xs ≡ true
+  pub keeps5 : rule5 ps xs ≡ true
+  pub keeps6 : rule6 qs xs ≡ true
+  pub keeps7 : rule7 ps qs xs ≡ true
+  pub keeps8 : rule8 xs ≡ true
+
+pub accepted : (ps : List ℤ) (qs xs : List ℕ) (work : ℕ) → verdict ps qs xs work ≡ good → Accepted ps qs xs work
+accepted ps qs xs work e =
+    let s = and-then-yes (refusals ps qs xs work) (rules ps qs xs) e in
+    let a7 : Paper = rule 8 (rule8 xs) good in
+    let a6 : Paper = rule 7 (rule7 ps qs xs) a7 in
+    let a5 : Paper = rule 6 (rule6 qs xs) a6 in
+    let a4 : Paper = rule 5 (rule5 ps xs) a5 in
+    let a3 : Paper = rule 4 (rule4 ps xs) a4 in
+    let a2 : Paper = rule 3 (rule3 ps xs) a3 in
+    let a1 : Paper = rule 2 (rule2 xs) a2 in
+    let r1 = rule-yes 1 (rule1 ps xs) a1 (s .1) in
+    let r2 = rule-yes 2 (rule2 xs) a2 (r1 .1) in
+    let r3 = rule-yes 3 (rule3 ps xs) a3 (r2 .1) in
+    let r4 = rule-yes 4 (rule4 ps xs) a4 (r3 .1) in
+    let r5 = rule-yes 5 (rule5 ps xs) a5 (r4 .1) in
+    let r6 = rule-yes 6 (rule6 qs xs) a6 (r5 .1) in
+    let r7 = rule-yes 7 (rule7 ps qs xs) a7 (r6 .1) in
+    let r8 = rule-yes 8 (rule8 xs) good (r7 .1) in
+    record {
+      rows-pass = silent (not (eqb (length xs % 3) 0)) (shortWork (pointCount ps) work) ps qs (s .0);
+      keeps1 = r1 .0;
+      keeps2 = r2 .0;
+      keeps3 = r3 .0;
+      keeps4 = r4 .0;
+      keeps5 = r5 .0;
+      keeps6 = r6 .0;
+      keeps7 = r7 .0;
+      keeps8 = r8 .0;
+    }
