@@ -1,22 +1,22 @@
 -- Ranks compare as coordinates do. So the order of two rank pairs, by which step 3 breaks a tie, is a test of four points alone, and no
 -- rank has to be computed. None of these laws asks that the points differ but those that say so. Assumes nothing.
-use mathlib.Core.Path.{_≡_, refl, sym, ap, ap₂, _∙_, subst}
-use mathlib.Core.Bool.{Bool, true, false, cond, not, _&&_, _||_}
+use mathlib.Core.Path.{_≡_, sym, ap, _∙_, subst}
+use mathlib.Core.Bool.{Bool, true, false, cond, _&&_, _||_}
 use mathlib.Core.List.{List}
 use mathlib.Core.Logic.{_⊎_, inl, inr}
 use Prim.Native.Nat.{ℕ, zero, suc, _+_, _≤_, _<_, min, max}
 use native.Mathlib.Nat.{not-suc-le-zero}
 use native.Mathlib.Decide.{decLt, ℕ-discrete}
 use native.Mathlib.Omega.{arith}
-use lib.Dec.{T, leb, ltb, eqb, lt→ltb, ltb→lt, le→leb, T-prop}
+use lib.Dec.{T, ltb, eqb, lt→ltb, ltb→lt, le→leb}
 use lib.IntN.{ℤ, pos, negsuc}
-use lib.Signed.{ltZ, leZ, _<ℤ_, _≤ℤ_, ltZ-yes, <ℤ-≤ℤ-trans, <ℤ-irrefl}
+use lib.Signed.{ltZ, leZ, _<ℤ_, ltZ-yes, <ℤ-≤ℤ-trans, <ℤ-irrefl}
 use borrow.Author.Tests.{lt-ltb, le-ltb, eq-eqb, ne-eqb, ltb-false}
 use Rattle.algebra.specs.Tests.{posb, eqZ}
 use Rattle.algebra.proofs.Sum.{by-bool}
 use Rattle.plane.specs.Points.{Pt}
 use Rattle.plane.specs.Determinants.{orient, incircle}
-use Rattle.plane.proofs.Test.{Reads, reads-as, reads-and, reads-or, reads-eqZ}
+use Rattle.plane.proofs.Test.{Reads, reads-and, reads-or, reads-eqZ}
 use Rattle.tables.specs.Data.{pointCount, point, same}
 use Rattle.tables.specs.Rules.{before, countTo, rank, pairBelow, wins, flips}
 use Rattle.tables.proofs.Table.{true-T, T-true, not-T-false, same-point, point-same}

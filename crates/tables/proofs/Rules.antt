@@ -1,24 +1,22 @@
 -- This file reads the eight sheet rules, which are tests that compute, as statements: each test holds exactly where its statement does.
 -- Assumes nothing.
-use mathlib.Core.Path.{_≡_, refl, sym, ap, _∙_, subst}
-use mathlib.Core.Bool.{Bool, true, false, cond, not, _&&_, _||_}
+use mathlib.Core.Path.{_≡_}
+use mathlib.Core.Bool.{Bool, true, false, not, _&&_, _||_}
 use mathlib.Core.List.{List}
 use mathlib.Core.Logic.{_⊎_, inl, inr}
-use Prim.Native.Nat.{ℕ, zero, suc, _+_, _*_, _-_, _/_, _%_, _≤_, _<_}
-use lib.Dec.{T, leb, ltb, eqb, leb→le, le→leb, ltb→lt, lt→ltb}
-use lib.IntN.{ℤ, pos, negℤ}
-use lib.ListN.{length, getD}
-use Rattle.algebra.specs.Tests.{posb, eqZ, allTo, anyTo}
-use Rattle.algebra.specs.Order.{Pos, NonNeg}
+use Prim.Native.Nat.{ℕ, _+_, _*_, _-_, _≤_, _<_}
+use lib.Dec.{T, leb, ltb, leb→le, le→leb, ltb→lt, lt→ltb}
+use lib.IntN.{ℤ, pos}
+use Rattle.algebra.specs.Tests.{anyTo}
+use Rattle.algebra.specs.Order.{Pos}
 use Rattle.algebra.specs.Sum.{sumTo}
-use Rattle.plane.specs.Points.{Pt}
-use Rattle.plane.specs.Determinants.{orient, incircle}
+use Rattle.plane.specs.Determinants.{orient}
 use Rattle.plane.specs.Base.{Side, s0, s1, s2, next, On, baseArea}
 use Rattle.plane.specs.Halfedges.{nxt}
 use Rattle.plane.specs.Tiles.{OnSide, Reverse, Tiles}
 use Rattle.plane.proofs.Test.{Reads, reads-as, reads-and, reads-or, reads-if, reads-not, reads-all, reads-any, reads-eq, reads-eqZ, reads-pos}
 use Rattle.tables.specs.Data.{pointCount, pairCount, point, endA, endB, base}
-use Rattle.tables.specs.Rules.{flips, triples, corner, cornerPoint, tripleArea, edgeIs, reverse, onLine, alongSide, isPair, properTriple, rule1, rule2, rule3, rule4, rule5, rule6, rule7, leastFirst, rises, risesTo, rule8}
+use Rattle.tables.specs.Rules.{flips, triples, corner, tripleArea, edgeIs, reverse, onLine, alongSide, isPair, properTriple, rule1, rule2, rule3, rule4, rule5, rule6, rule7, risesTo, rule8}
 
 pub reads-le : (m n : ℕ) → Reads (leb m n) (m ≤ n)
 reads-le m n = record { says = leb→le m n; shows = le→leb m n }

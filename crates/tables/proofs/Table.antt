@@ -2,7 +2,7 @@
 -- is yes, and what is known of points and pairs that no row refuses. Assumes nothing.
 use mathlib.Core.Path.{_≡_, refl, sym, ap, _∙_, subst}
 use mathlib.Core.Bool.{Bool, true, false, cond, not, _&&_, _||_}
-use mathlib.Core.List.{List}
+use mathlib.Core.List.{List, [], _∷_}
 use Prim.Native.Nat.{ℕ, zero, suc, _+_, _*_, _/_, _%_, _≤_, _<_}
 use native.Mathlib.Nat.{not-suc-le-zero}
 use native.Mathlib.Decide.{decLt, ℕ-discrete}
@@ -11,10 +11,9 @@ use lib.Dec.{T, leb, ltb, eqb, lit≤}
 use lib.IntN.{ℤ, pos, negℤ, natAbs, negℤ-negℤ}
 use lib.ListN.{length, getD, List·getD-eq-default}
 use borrow.Author.Tests.{ltb-false, leb-true, leb-false, eqb-true, eqb-false, not-false}
-use Rattle.algebra.specs.Tests.{posb, eqZ, anyTo}
+use Rattle.algebra.specs.Tests.{eqZ, anyTo}
 use Rattle.algebra.specs.Order.{Pos, NonNeg}
 use Rattle.algebra.proofs.Order.{pos-by, nn-by, Sign, is-neg, is-zero, is-pos, sign}
-use Rattle.algebra.proofs.Sum.{by-bool}
 use Rattle.plane.specs.Points.{Pt}
 use Rattle.plane.specs.Determinants.{orient}
 use Rattle.plane.specs.Base.{Side, s0, s1, s2, next, baseArea, InBase}
@@ -205,6 +204,21 @@ silent odd short ps qs e =
       row10 = lowest-nowhere (crossing ps qs) m (r10 .0);
     }
 
+pub silent-rows : (odd short : Bool) (ps : List ℤ) (qs : List ℕ) → Silent odd short ps qs → rows odd short ps qs ≡ good
+silent-rows odd short ps qs r =
+    rw (
+      r .row1,
+      r .row2,
+      r .row3,
+      nowhere-lowest (far ps) (pointCount ps) (r .row4),
+      r .row5,
+      nowhere-lowest (outside ps) (pointCount ps) (r .row6),
+      nowhere-lowest (again ps) (pointCount ps) (r .row7),
+      nowhere-lowest (badPair (pointCount ps) qs) (pairCount qs) (r .row8),
+      nowhere-lowest (blocked ps qs) (pairCount qs) (r .row9),
+      nowhere-lowest (crossing ps qs) (pairCount qs) (r .row10),
+    )
+
 -- ---- a row or a rule that answers, and one that passes on
 
 pub row-stops : (k : ℕ) {b : Bool} (after : Paper) → b ≡ true → row k b after ≡ refuses k 0
@@ -224,6 +238,80 @@ rule-stops k after e = rw e
 
 pub rule-passes : (k : ℕ) {b : Bool} (after : Paper) → b ≡ true → rule k b after ≡ after
 rule-passes k after e = rw e
+
+-- ---- the table's order: the answer is the first row that offends
+
+-- a test with no place, as a row with one: the place is 0
+abbrev pub once : Bool → Lowest
+once offends = cond offends (At 0) Nowhere
+
+-- rows 1 to 10, in the table's order
+abbrev pub inOrder : Bool → Bool → List ℤ → List ℕ → List Lowest
+inOrder odd short ps qs =
+    once (not (eqb (length ps % 2) 0) || not (eqb (length qs % 2) 0) || odd)
+    ∷ once (badCounts (pointCount ps) (pairCount qs))
+    ∷ once short
+    ∷ lowest (pointCount ps) (far ps)
+    ∷ once (noArea ps)
+    ∷ lowest (pointCount ps) (outside ps)
+    ∷ lowest (pointCount ps) (again ps)
+    ∷ lowest (pairCount qs) (badPair (pointCount ps) qs)
+    ∷ lowest (pairCount qs) (blocked ps qs)
+    ∷ lowest (pairCount qs) (crossing ps qs)
+    ∷ []
+
+-- the first of them that offends, where they are numbered from k on
+unfoldable pub firstOf : ℕ → List Lowest → Paper
+firstOf k [] = good
+firstOf k (l ∷ ls) = rowAt k l (firstOf (suc k) ls)
+
+pub in-order : (odd short : Bool) (ps : List ℤ) (qs : List ℕ) → rows odd short ps qs ≡ firstOf 1 (inOrder odd short ps qs)
+unfolding firstOf
+in-order odd short ps qs =
+    plain 1 (not (eqb (length ps % 2) 0) || not (eqb (length qs % 2) 0) || odd)
+    (plain 2 (badCounts (pointCount ps) (pairCount qs)) (plain 3 short (ap (rowAt 4 (lowest (pointCount ps) (far ps))) (plain 5 (noArea ps) refl))))
+  where
+    plain : (k : ℕ) (b : Bool) {p q : Paper} → p ≡ q → row k b p ≡ rowAt k (once b) q
+    plain k true e = refl
+    plain k false e = e
+
+-- Of these rows, row j offends at the place i, and no row before it offends.
+pub record First (ls : List Lowest) (j i : ℕ) : Type 0 where
+  pub offends : getD ls j Nowhere ≡ At i
+  pub silent-before : (m : ℕ) → m < j → getD ls m Nowhere ≡ Nowhere
+
+first-row : (k : ℕ) (ls : List Lowest) (m i : ℕ) → firstOf k ls ≡ refuses m i → (j : ℕ) × (m ≡ k + j) × First ls j i
+unfolding firstOf
+first-row k [] m i e = clash (cc)
+first-row k (At a ∷ ls) m i e =
+    let p : k ≡ m = cc in
+    (0, omega arith, record { offends = cc; silent-before = λ m l. absurd (not-suc-le-zero l) })
+first-row k (Nowhere ∷ ls) m i e = later (first-row (suc k) ls m i e)
+  where
+    later : (j : ℕ) × (m ≡ suc k + j) × First ls j i → (j : ℕ) × (m ≡ k + j) × First (Nowhere ∷ ls) j i
+    later r = let p = r .1 in (suc (r .0), omega arith, record { offends = r .2 .offends; silent-before = before (r .0) (r .2 .silent-before) })
+      where
+        before : (j : ℕ) → ((m : ℕ) → m < j → getD ls m Nowhere ≡ Nowhere) → (m : ℕ) → m < suc j → getD (Nowhere ∷ ls) m Nowhere ≡ Nowhere
+        before j h zero l = refl
+        before j h (suc m) l = h m (omega arith)
+
+row-first : (k : ℕ) (ls : List Lowest) (j i : ℕ) → First ls j i → firstOf k ls ≡ refuses (k + j) i
+unfolding firstOf
+row-first k [] j i r = let e = r .offends in clash (cc)
+row-first k (l ∷ ls) zero i r = let q : k + 0 ≡ k = omega arith in rw (r .offends, q)
+row-first k (l ∷ ls) (suc j) i r =
+    let q : k + suc j ≡ suc k + j = omega arith in
+    rw (r .silent-before 0 (omega arith), q)
+    (row-first (suc k) ls j i (record { offends = r .offends; silent-before = λ m h. r .silent-before (suc m) (omega arith) }))
+
+-- The table refuses by row j + 1 at the place i exactly where that row offends there and no row before it offends.
+pub refused-first : (odd short : Bool) (ps : List ℤ) (qs : List ℕ) (m i : ℕ) → rows odd short ps qs ≡ refuses m i →
+    (j : ℕ) × (m ≡ 1 + j) × First (inOrder odd short ps qs) j i
+refused-first odd short ps qs m i e = first-row 1 (inOrder odd short ps qs) m i (sym (in-order odd short ps qs) ∙ e)
+
+pub first-refused : (odd short : Bool) (ps : List ℤ) (qs : List ℕ) (j i : ℕ) → First (inOrder odd short ps qs) j i →
+    rows odd short ps qs ≡ refuses (1 + j) i
+first-refused odd short ps qs j i r = in-order odd short ps qs ∙ row-first 1 (inOrder odd short ps qs) j i r
 
 -- ---- what is known of points and pairs that no row refuses
 
@@ -304,8 +392,9 @@ module _ {odd short : Bool} {ps : List ℤ} {qs : List ℕ} (r : Silent odd shor
     where
       turned : (b : Bool) → b ≡ true → Pos (negℤ (orient (point ps 0) (point ps 1) (point ps 2)))
           → Pos (orient (point ps 0) (point ps (cond b 2 1)) (point ps (cond b 1 2)))
-      turned b e h = rw e
-          (pos-by (orient-swap (point ps 0) (point ps 2) (point ps 1) ∙ ap negℤ (sym (orient-cyc (point ps 0) (point ps 1) (point ps 2) ∙ orient-cyc (point ps 1) (point ps 2) (point ps 0)))) h)
+      turned b e h =
+          let q = orient-cyc (point ps 0) (point ps 1) (point ps 2) ∙ orient-cyc (point ps 1) (point ps 2) (point ps 0) in
+          rw e (pos-by (orient-swap (point ps 0) (point ps 2) (point ps 1) ∙ ap negℤ (sym q)) h)
 
       kept : (b : Bool) → b ≡ false → Pos (orient (point ps 0) (point ps 1) (point ps 2))
           → Pos (orient (point ps 0) (point ps (cond b 2 1)) (point ps (cond b 1 2)))
@@ -417,3 +506,8 @@ accepted ps qs xs work e =
       keeps7 = r7 .0;
       keeps8 = r8 .0;
     }
+
+pub accepted-yes : (ps : List ℤ) (qs xs : List ℕ) (work : ℕ) → Accepted ps qs xs work → verdict ps qs xs work ≡ good
+accepted-yes ps qs xs work r =
+    ap (λ (p : Paper). andThen p (rules ps qs xs)) (silent-rows (not (eqb (length xs % 3) 0)) (shortWork (pointCount ps) work) ps qs (r .rows-pass)) ∙
+    rw (r .keeps1, r .keeps2, r .keeps3, r .keeps4, r .keeps5, r .keeps6, r .keeps7, r .keeps8)
