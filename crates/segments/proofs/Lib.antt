@@ -1,0 +1,2 @@
+mod Points
+mod Answers
