@@ -1,2 +1,3 @@
 mod Points
 mod Answers
+mod SignTests

@@ -35,7 +35,7 @@ module _ (ρ : List ℤ) (h : Small limit ρ) where
 
 -- what was read of a list, and passed
 module _ (ps : List ℤ) (near : Near ps) where
-  near-row : (is : List ℕ) → Small limit (row ps is)
+  pub near-row : (is : List ℕ) → Small limit (row ps is)
   near-row [] = tt
   near-row (i ∷ is) = (near (2 * i), (near (2 * i + 1), near-row is))
 

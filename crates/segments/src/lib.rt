@@ -84,3 +84,48 @@ pub fn orient_at(points: &[i32], a: usize, b: usize, c: usize) -> Sign
         points[2 * c + 1],
     )
 }
+
+// c is strictly left of the line from a to b: the three are counterclockwise.
+pub fn is_left(points: &[i32], a: usize, b: usize, c: usize) -> bool
+    requires { ⌜ Near (now points) ⌝ }
+    requires { ⌜ (a < pointCount (now points)) × (b < pointCount (now points)) × (c < pointCount (now points)) ⌝ }
+    ensures { λ r. ⌜ r ≡ posb (orient (point (now (points .entry)) a) (point (now (points .entry)) b) (point (now (points .entry)) c)) ⌝ }
+{
+    is_pos(orient_at(points, a, b, c))
+}
+
+// c is strictly right of the line from a to b: the three are clockwise.
+pub fn is_right(points: &[i32], a: usize, b: usize, c: usize) -> bool
+    requires { ⌜ Near (now points) ⌝ }
+    requires { ⌜ (a < pointCount (now points)) × (b < pointCount (now points)) × (c < pointCount (now points)) ⌝ }
+    ensures { λ r. ⌜ r ≡ posb (negℤ (orient (point (now (points .entry)) a) (point (now (points .entry)) b) (point (now (points .entry)) c))) ⌝ }
+{
+    is_neg(orient_at(points, a, b, c))
+}
+
+// The three points have no area.
+pub fn is_flat(points: &[i32], a: usize, b: usize, c: usize) -> bool
+    requires { ⌜ Near (now points) ⌝ }
+    requires { ⌜ (a < pointCount (now points)) × (b < pointCount (now points)) × (c < pointCount (now points)) ⌝ }
+    ensures { λ r. ⌜ r ≡ eqZ (orient (point (now (points .entry)) a) (point (now (points .entry)) b) (point (now (points .entry)) c)) (pos 0) ⌝ }
+{
+    is_zero(orient_at(points, a, b, c))
+}
+
+// The circle sign of four numbered points.
+pub fn circle_at(points: &[i32], a: usize, b: usize, c: usize, d: usize) -> Sign
+    requires { ⌜ Near (now points) ⌝ }
+    requires { ⌜ (a < pointCount (now points)) × (b < pointCount (now points)) × (c < pointCount (now points)) × (d < pointCount (now points)) ⌝ }
+    ensures { λ r. ⌜ r ≡ signZ (incircle (point (now (points .entry)) a) (point (now (points .entry)) b) (point (now (points .entry)) c) (point (now (points .entry)) d)) ⌝ }
+{
+    known(signs::circle_sign(
+        points[2 * a],
+        points[2 * a + 1],
+        points[2 * b],
+        points[2 * b + 1],
+        points[2 * c],
+        points[2 * c + 1],
+        points[2 * d],
+        points[2 * d + 1],
+    ))
+}
