@@ -139,7 +139,7 @@ unfolding rank
 rank-of ps i j e = ap (λ (p : Pt ℤ). countTo (pointCount ps) (λ k. before (point ps k) p)) e
 
 module _ (ps : List ℤ) where
-  -- The count is strictly monotone: what is before i is before j, and i itself is before j and not before i.
+  -- The count is strictly monotone: what is before i is before j, and i is before j and not before itself.
   pub rank-lt : (i j : ℕ) → i < pointCount ps → before (point ps i) (point ps j) ≡ true → rank ps i < rank ps j
   unfolding rank
   rank-lt i j l e =
