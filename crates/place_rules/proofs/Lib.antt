@@ -1,0 +1,2 @@
+mod Base
+mod Step3
