@@ -161,7 +161,7 @@ fn before(points: &[i32], i: usize, j: usize) -> bool
 fn lower(points: &[i32], i: usize, j: usize) -> usize
     requires { ⌜ Near (now points) ⌝ }
     requires { ⌜ (i < pointCount (now points)) × (j < pointCount (now points)) ⌝ }
-    ensures { λ r. ⌜ r ≡ cond (before (point (now (points .entry)) i) (point (now (points .entry)) j)) i j ⌝ }
+    ensures { λ r. ⌜ (r < pointCount (now (points .entry))) × (point (now (points .entry)) r ≡ cond (before (point (now (points .entry)) i) (point (now (points .entry)) j)) (point (now (points .entry)) i) (point (now (points .entry)) j)) ⌝ }
 {
     if before(points, i, j) { i } else { j }
 }
@@ -169,7 +169,7 @@ fn lower(points: &[i32], i: usize, j: usize) -> usize
 fn upper(points: &[i32], i: usize, j: usize) -> usize
     requires { ⌜ Near (now points) ⌝ }
     requires { ⌜ (i < pointCount (now points)) × (j < pointCount (now points)) ⌝ }
-    ensures { λ r. ⌜ r ≡ cond (before (point (now (points .entry)) i) (point (now (points .entry)) j)) j i ⌝ }
+    ensures { λ r. ⌜ (r < pointCount (now (points .entry))) × (point (now (points .entry)) r ≡ cond (before (point (now (points .entry)) i) (point (now (points .entry)) j)) (point (now (points .entry)) j) (point (now (points .entry)) i)) ⌝ }
 {
     if before(points, i, j) { j } else { i }
 }
