@@ -1,2 +1,3 @@
 mod Base
+mod Areas
 mod Step3

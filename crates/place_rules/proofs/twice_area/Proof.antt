@@ -1,185 +1,59 @@
+-- `twice_area` meets its contract: each operation's result fits, by its computed size, and what is read back is the determinant. Assumes nothing.
 use borrow.Author.Needs.{needs}
+use mathlib.Core.List.{List, [], _∷_}
+use Prim.Native.Nat.{ℕ}
+use lib.Dec.{T}
+use lib.IntN.{ℤ}
+use mir.Syntax.{w32, w64}
+use mir.Val.{SFits}
+use Rattle.algebra.proofs.Machine.{Code, arg, wide, minus, times, raw, good, fits-small, is-small}
+use Rattle.algebra.proofs.Size.{all}
+use Rattle.plane.specs.Determinants.{orient}
+use Rattle.plane.proofs.Polynomials.{orientE, on3}
+use Rattle.signs.specs.Answers.{limit}
+use Rattle.tables.specs.Data.{point}
+use Rattle.segments.proofs.Points.{row, near-row}
 use Rattle.place_rules.proofs.twice_area.Statement.{statement}
 use Rattle.place_rules.proofs.twice_area.Tie as tie
-use Rattle.place_rules.proofs.twice_area.Reads as reads
-use Rattle.place_rules.proofs.twice_area.Lts as lts
 
--- src/lib.rt:101:21
-mul-cx : tie.Need-mul-cx
-mul-cx c = search needs
+-- the code, over the coordinates of a, b and c in a row
+abbrev cast : ℕ → Code
+cast i = wide w32 (arg i)
 
--- src/lib.rt:101:14
-mul-cx-2 : tie.Need-mul-cx-2
-mul-cx-2 c = search needs
+abbrev dif : ℕ → ℕ → Code
+dif i j = minus w64 (cast i) (cast j)
 
--- src/lib.rt:101:14
-shared-slice-copy-out-cx : tie.Need-shared-slice-copy-out-cx
-shared-slice-copy-out-cx c = search needs
+abbrev l : Code
+l = times w64 (dif 0 4) (dif 3 5)
 
--- src/lib.rt:101:14
-cast-cx : tie.Need-cast-cx
-cast-cx c = ?
+abbrev r : Code
+r = times w64 (dif 1 5) (dif 2 4)
 
--- src/lib.rt:102:21
-mul-cy : tie.Need-mul-cy
-mul-cy c = search needs
+module _ (c : tie.Start) where
+  abbrev ρ : List ℤ
+  ρ = row (c .args .points .now) (c .args .a ∷ c .args .b ∷ c .args .c ∷ [])
 
--- src/lib.rt:102:21
-add-cy : tie.Need-add-cy
-add-cy c = search needs
+  ok : (e : Code) → T (good w64 e (all limit ρ)) → SFits w64 (raw e ρ)
+  ok e t = fits-small w64 limit ρ (near-row (c .args .points .now) (c .pre .0) (c .args .a ∷ c .args .b ∷ c .args .c ∷ [])) e t
 
--- src/lib.rt:102:14
-mul-cy-2 : tie.Need-mul-cy-2
-mul-cy-2 c = search needs
+-- the record at the last read
+abbrev start : tie.After-bcy → tie.Start
+start c = c .before .before .before .before .before .before
 
--- src/lib.rt:102:14
-shared-slice-copy-out-cy : tie.Need-shared-slice-copy-out-cy
-shared-slice-copy-out-cy c = search needs
-
--- src/lib.rt:102:14
-cast-cy : tie.Need-cast-cy
-cast-cy c = ?
-
--- src/lib.rt:103:23
-mul-acx : tie.Need-mul-acx
-mul-acx c = search needs
-
--- src/lib.rt:103:16
-mul-acx-2 : tie.Need-mul-acx-2
-mul-acx-2 c = search needs
-
--- src/lib.rt:103:16
-shared-slice-copy-out-acx : tie.Need-shared-slice-copy-out-acx
-shared-slice-copy-out-acx c = search needs
-
--- src/lib.rt:103:16
-cast-acx : tie.Need-cast-acx
-cast-acx c = ?
-
--- src/lib.rt:103:15
-sub-acx : tie.Need-sub-acx
-sub-acx c = ?
-
--- src/lib.rt:104:23
-mul-acy : tie.Need-mul-acy
-mul-acy c = search needs
-
--- src/lib.rt:104:23
-add-acy : tie.Need-add-acy
-add-acy c = search needs
-
--- src/lib.rt:104:16
-mul-acy-2 : tie.Need-mul-acy-2
-mul-acy-2 c = search needs
-
--- src/lib.rt:104:16
-shared-slice-copy-out-acy : tie.Need-shared-slice-copy-out-acy
-shared-slice-copy-out-acy c = search needs
-
--- src/lib.rt:104:16
-cast-acy : tie.Need-cast-acy
-cast-acy c = ?
-
--- src/lib.rt:104:15
-sub-acy : tie.Need-sub-acy
-sub-acy c = ?
-
--- src/lib.rt:105:23
-mul-bcx : tie.Need-mul-bcx
-mul-bcx c = search needs
-
--- src/lib.rt:105:16
-mul-bcx-2 : tie.Need-mul-bcx-2
-mul-bcx-2 c = search needs
-
--- src/lib.rt:105:16
-shared-slice-copy-out-bcx : tie.Need-shared-slice-copy-out-bcx
-shared-slice-copy-out-bcx c = search needs
-
--- src/lib.rt:105:16
-cast-bcx : tie.Need-cast-bcx
-cast-bcx c = ?
-
--- src/lib.rt:105:15
-sub-bcx : tie.Need-sub-bcx
-sub-bcx c = ?
-
--- src/lib.rt:106:23
-mul-bcy : tie.Need-mul-bcy
-mul-bcy c = search needs
-
--- src/lib.rt:106:23
-add-bcy : tie.Need-add-bcy
-add-bcy c = search needs
-
--- src/lib.rt:106:16
-mul-bcy-2 : tie.Need-mul-bcy-2
-mul-bcy-2 c = search needs
-
--- src/lib.rt:106:16
-shared-slice-copy-out-bcy : tie.Need-shared-slice-copy-out-bcy
-shared-slice-copy-out-bcy c = search needs
-
--- src/lib.rt:106:16
-cast-bcy : tie.Need-cast-bcy
-cast-bcy c = ?
-
--- src/lib.rt:106:15
-sub-bcy : tie.Need-sub-bcy
-sub-bcy c = ?
-
--- src/lib.rt:107:5
-mul-result : tie.Need-mul-result
-mul-result c = ?
-
--- src/lib.rt:107:17
-mul-result-2 : tie.Need-mul-result-2
-mul-result-2 c = ?
-
--- src/lib.rt:107:5
-sub-result : tie.Need-sub-result
-sub-result c = ?
-
--- src/lib.rt:96:1
 returns : tie.Need-returns
-returns c = ?
+unfolding orient point
+returns c =
+    let s = start c in
+    is-small w64 limit (ρ s) (near-row (s .args .points .now) (s .pre .0) (s .args .a ∷ s .args .b ∷ s .args .c ∷ [])) (minus w64 l r) (on3 orientE) tt tt
 
 pub twice-area-spec : {M : Type 1} → statement M
 twice-area-spec =
     tie.close
     (tie.spec
-    mul-cx
-    mul-cx-2
-    shared-slice-copy-out-cx
-    cast-cx
-    mul-cy
-    add-cy
-    mul-cy-2
-    shared-slice-copy-out-cy
-    cast-cy
-    mul-acx
-    mul-acx-2
-    shared-slice-copy-out-acx
-    cast-acx
-    sub-acx
-    mul-acy
-    add-acy
-    mul-acy-2
-    shared-slice-copy-out-acy
-    cast-acy
-    sub-acy
-    mul-bcx
-    mul-bcx-2
-    shared-slice-copy-out-bcx
-    cast-bcx
-    sub-bcx
-    mul-bcy
-    add-bcy
-    mul-bcy-2
-    shared-slice-copy-out-bcy
-    cast-bcy
-    sub-bcy
-    mul-result
-    mul-result-2
-    sub-result
-    returns)
+    (λ c. search needs) (λ c. search needs) (λ c. search needs) (λ c. ok (c .before) (cast 4) tt)
+    (λ c. search needs) (λ c. search needs) (λ c. search needs) (λ c. search needs) (λ c. ok (c .before .before) (cast 5) tt)
+    (λ c. search needs) (λ c. search needs) (λ c. search needs) (λ c. ok (c .before .before .before) (cast 0) tt) (λ c. ok (c .before .before .before) (dif 0 4) tt)
+    (λ c. search needs) (λ c. search needs) (λ c. search needs) (λ c. search needs) (λ c. ok (c .before .before .before .before) (cast 1) tt) (λ c. ok (c .before .before .before .before) (dif 1 5) tt)
+    (λ c. search needs) (λ c. search needs) (λ c. search needs) (λ c. ok (c .before .before .before .before .before) (cast 2) tt) (λ c. ok (c .before .before .before .before .before) (dif 2 4) tt)
+    (λ c. search needs) (λ c. search needs) (λ c. search needs) (λ c. search needs) (λ c. ok (start c) (cast 3) tt) (λ c. ok (start c) (dif 3 5) tt)
+    (λ c. ok (start c) l tt) (λ c. ok (start c) r tt) (λ c. ok (start c) (minus w64 l r) tt) returns)
