@@ -8,16 +8,25 @@ ghost use Rattle.plane.specs.Halfedges.{nxt};
 ghost use Rattle.tables.specs.Data.{pointCount, clockwise};
 ghost use Rattle.tables.specs.Rules.{corner, reverse, alongSide, rule2, rule3};
 ghost use Rattle.segments.specs.Near.{Near};
+ghost use Rattle.edges.specs.Index.{Corners};
 ghost use Rattle.list_rules.specs.Listed.{Listed, Room};
-ghost use Rattle.edge_rules.specs.Stays.{stays, allStay};
+ghost use Rattle.edge_rules.specs.Stays.{Triples, turning, stays, allStay};
 use edges::Found;
+
+// The other end of edge h.
+fn head(list: &[u32], h: usize) -> u32
+    requires { ⌜ Triples (now list) × (h < length (now list)) ⌝ }
+    ensures { λ r. ⌜ r ≡ corner (now (list .entry)) (nxt h) ⌝ }
+{
+    list[edges::next_edge(h)]
+}
 
 // Whether the list has the reverse of edge h.
 fn has_reverse(list: &[u32], work: &[u32], n: usize, h: usize) -> bool
     requires { ⌜ Listed n (now list) (now work) × (h < length (now list)) ⌝ }
     ensures { λ r. ⌜ r ≡ anyTo (length (now (list .entry))) (reverse (now (list .entry)) h) ⌝ }
 {
-    let found = edges::find(list, work, n, list[edges::next_edge(h)], list[h]);
+    let found = edges::find(list, work, n, head(list, h), list[h]);
     match found {
         Found::At(_) => true,
         Found::Nowhere => false,
@@ -32,7 +41,7 @@ fn is_met(points: &[i32], list: &[u32], work: &[u32], cw: bool, h: usize) -> boo
         return true;
     }
     let u = list[h] as usize;
-    let v = list[edges::next_edge(h)] as usize;
+    let v = head(list, h) as usize;
     place_rules::along_side(points, cw, u, v)
 }
 
@@ -51,6 +60,24 @@ pub fn edges_met(points: &[i32], list: &[u32], work: &[u32], cw: bool) -> bool
     true
 }
 
+// The corner of edge h's triple that is not on it.
+fn apex(list: &[u32], h: usize) -> usize
+    requires { ⌜ Triples (now list) × (h < length (now list)) ⌝ }
+    ensures { λ r. ⌜ r ≡ corner (now (list .entry)) (nxt (nxt h)) ⌝ }
+{
+    list[edges::next_edge(edges::next_edge(h))] as usize
+}
+
+// Step 3 flips edge h, whose reverse is g.
+fn turns(points: &[i32], list: &[u32], h: usize, g: usize) -> bool
+    requires { ⌜ Near (now points) × Triples (now list) × Corners (pointCount (now points)) (now list) × (h < length (now list)) × (g < length (now list)) ⌝ }
+    ensures { λ r. ⌜ r ≡ turning (now (points .entry)) (now (list .entry)) h g ⌝ }
+{
+    let a = list[h] as usize;
+    let b = head(list, h) as usize;
+    place_rules::would_flip(points, a, b, apex(list, h), apex(list, g))
+}
+
 // Edge h is marked or has no reverse, or step 3 would not flip it.
 fn stays(points: &[i32], list: &[u32], work: &[u32], h: usize) -> bool
     requires { ⌜ Near (now points) × Listed (pointCount (now points)) (now list) (now work) × Room (pointCount (now points)) (now list) (now work) × (rule2 (now list) ≡ true) × (h < length (now list)) ⌝ }
@@ -60,16 +87,9 @@ fn stays(points: &[i32], list: &[u32], work: &[u32], h: usize) -> bool
     if work[7 * n + h] != 0 {
         return true;
     }
-    let k = edges::next_edge(h);
-    let a = list[h];
-    let b = list[k];
-    let found = edges::find(list, work, n, b, a);
+    let found = edges::find(list, work, n, head(list, h), list[h]);
     match found {
-        Found::At(g) => {
-            let c = list[edges::next_edge(k)] as usize;
-            let d = list[edges::next_edge(edges::next_edge(g))] as usize;
-            !place_rules::would_flip(points, a as usize, b as usize, c, d)
-        }
+        Found::At(g) => !turns(points, list, h, g),
         Found::Nowhere => true,
     }
 }

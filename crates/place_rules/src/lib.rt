@@ -134,7 +134,12 @@ pub fn areas_fill(points: &[i32], list: &[u32], cw: bool) -> bool
     let mut sum: i64 = 0;
     let mut t = 0;
     while t < count {
-        sum += twice_area(points, list[3 * t] as usize, list[3 * t + 1] as usize, list[3 * t + 2] as usize);
+        sum += twice_area(
+            points,
+            list[3 * t] as usize,
+            list[3 * t + 1] as usize,
+            list[3 * t + 2] as usize,
+        );
         t += 1;
     }
     sum == twice_area(points, 0, second(cw), third(cw))
