@@ -1,6 +1,6 @@
 -- Points that are read from a list and passed to a call: each coordinate is within the limit, so it goes through bits unchanged.
 -- Assumes nothing.
-use mathlib.Core.Path.{_≡_, sym, ap, _∙_}
+use mathlib.Core.Path.{_≡_, sym, ap, ap₂, _∙_}
 use mathlib.Core.Bool.{Bool}
 use mathlib.Core.List.{List, [], _∷_}
 use Prim.Native.Nat.{ℕ, zero, suc, _+_, _*_, _≤_}
@@ -20,6 +20,10 @@ use Rattle.segments.specs.Near.{Near}
 abbrev pub row : List ℤ → List ℕ → List ℤ
 row ps [] = []
 row ps (i ∷ is) = point ps i .x ∷ point ps i .y ∷ row ps is
+
+-- one point more
+pub also : (ps : List ℤ) (i : ℕ) (is : List ℕ) {x y : ℤ} {ρ : List ℤ} → x ≡ point ps i .x → y ≡ point ps i .y → ρ ≡ row ps is → x ∷ y ∷ ρ ≡ row ps (i ∷ is)
+also ps i is e f h = ap₂ (λ (x : ℤ) (xs : List ℤ). x ∷ xs) e (ap₂ (λ (y : ℤ) (ys : List ℤ). y ∷ ys) f h)
 
 abbrev pub three : {X : Type 0} → (Pt ℤ → Pt ℤ → Pt ℤ → X) → List ℤ → X
 three f ρ = f (at (look ρ 0) (look ρ 1)) (at (look ρ 2) (look ρ 3)) (at (look ρ 4) (look ρ 5))
