@@ -1,7 +1,7 @@
 -- Step 3 as the code tries it: points compared by their coordinates, rank pairs by the points alone, and the circle sign by cases.
 -- Assumes nothing.
-use mathlib.Core.Path.{_≡_, refl, sym, ap, ap₂, _∙_, subst}
-use mathlib.Core.Bool.{Bool, true, false, cond, _&&_, _||_}
+use mathlib.Core.Path.{_≡_, refl, sym, ap₂, _∙_, subst}
+use mathlib.Core.Bool.{Bool, true, false, _&&_, _||_}
 use mathlib.Core.List.{List, [], _∷_}
 use Prim.Native.Nat.{ℕ, _+_, _*_, _<_}
 use lib.Dec.{T}
@@ -10,7 +10,7 @@ use lib.ListN.{getD}
 use lib.Signed.{ltZ, _<ℤ_, ltZ-yes, <ℤ-irrefl}
 use mir.Syntax.{w32}
 use mir.Val.{SFits, ofZ}
-use Rattle.algebra.specs.Tests.{posb, eqZ}
+use Rattle.algebra.specs.Tests.{posb}
 use Rattle.algebra.proofs.Machine.{arg, back, back-same, fits-small}
 use Rattle.algebra.proofs.Tests.{or-false}
 use Rattle.plane.specs.Points.{Pt}
@@ -23,7 +23,7 @@ use Rattle.signs.specs.declared.Sign.the-variants.{Neg, Zero, Pos}
 use Rattle.tables.specs.Data.{pointCount, point, same}
 use Rattle.tables.specs.Rules.{before, rank, pairBelow, wins, flips}
 use Rattle.tables.proofs.Table.{true-T, T-true, not-T-false, same-point, point-same}
-use Rattle.tables.proofs.Ranks.{Order, less, equal, more, order, before-irrefl, before-not, lowOf, highOf, pointPairBelow, pair-below}
+use Rattle.tables.proofs.Ranks.{Order, less, equal, more, order, before-irrefl, before-not, lowOf, highOf, pair-below}
 use Rattle.segments.specs.Near.{Near}
 use Rattle.segments.specs.Tests.{isPos, isZero}
 use Rattle.segments.proofs.Points.{row, near-row}

@@ -7,11 +7,11 @@ ghost use Prim.Native.Nat.{_<_, _≤_};
 ghost use lib.IntN.{pos};
 ghost use lib.ListN.{length};
 ghost use Rattle.algebra.specs.Tests.{posb, eqZ};
-ghost use Rattle.plane.specs.Determinants.{orient};
 ghost use Rattle.tables.specs.Data.{pointCount, point, clockwise};
-ghost use Rattle.tables.specs.Rules.{before, rank, pairBelow, flips, alongSide, properTriple, rule1, rule5};
+ghost use Rattle.tables.specs.Rules.{rank, pairBelow, flips, alongSide, properTriple, rule1, rule5};
 ghost use Rattle.segments.specs.Near.{Near};
 ghost use Rattle.edges.specs.Index.{Corners};
+ghost use Rattle.place_rules.specs.Numbered.{area, comesBefore};
 use signs::Sign;
 
 // ---- the base reads 0, 1, 2, or 0, 2, 1 where it is clockwise
@@ -32,7 +32,7 @@ fn third(cw: bool) -> usize
 fn both_on(points: &[i32], a: usize, b: usize, u: usize, v: usize) -> bool
     requires { ⌜ Near (now points) ⌝ }
     requires { ⌜ (a < pointCount (now points)) × (b < pointCount (now points)) × (u < pointCount (now points)) × (v < pointCount (now points)) ⌝ }
-    ensures { λ r. ⌜ r ≡ eqZ (orient (point (now (points .entry)) a) (point (now (points .entry)) b) (point (now (points .entry)) u)) (pos 0) && eqZ (orient (point (now (points .entry)) a) (point (now (points .entry)) b) (point (now (points .entry)) v)) (pos 0) ⌝ }
+    ensures { λ r. ⌜ r ≡ eqZ (area (now (points .entry)) a b u) (pos 0) && eqZ (area (now (points .entry)) a b v) (pos 0) ⌝ }
 {
     segments::is_flat(points, a, b, u) && segments::is_flat(points, a, b, v)
 }
@@ -56,6 +56,7 @@ pub fn along_side(points: &[i32], cw: bool, u: usize, v: usize) -> bool
 
 // ---- rule 1
 
+// Three point numbers below n, distinct and strictly counterclockwise.
 fn proper(points: &[i32], a: u32, b: u32, c: u32) -> bool
     requires { ⌜ Near (now points) ⌝ }
     ensures { λ r. ⌜ r ≡ properTriple (now (points .entry)) a b c ⌝ }
@@ -85,7 +86,8 @@ fn proper(points: &[i32], a: u32, b: u32, c: u32) -> bool
     segments::is_left(points, i, j, k)
 }
 
-// Rule 1: 1 to 2n - 5 triples of distinct point numbers, each strictly counterclockwise.
+// Rule 1: 1 to 2n - 5 triples of distinct point numbers, each strictly counterclockwise. The 5 is added on the other side, since 2n - 5
+// would wrap below three points.
 pub fn triples_proper(points: &[i32], list: &[u32]) -> bool
     requires { ⌜ Near (now points) ⌝ }
     ensures { λ r. ⌜ r ≡ rule1 (now (points .entry)) (now (list .entry)) ⌝ }
@@ -110,10 +112,11 @@ pub fn triples_proper(points: &[i32], list: &[u32]) -> bool
 
 // ---- rule 5
 
+// The crate signs tells only the sign of an orientation, and a sum needs its size.
 fn twice_area(points: &[i32], a: usize, b: usize, c: usize) -> i64
     requires { ⌜ Near (now points) ⌝ }
     requires { ⌜ (a < pointCount (now points)) × (b < pointCount (now points)) × (c < pointCount (now points)) ⌝ }
-    ensures { λ r. ⌜ r ≡ orient (point (now (points .entry)) a) (point (now (points .entry)) b) (point (now (points .entry)) c) ⌝ }
+    ensures { λ r. ⌜ r ≡ area (now (points .entry)) a b c ⌝ }
 {
     let cx = points[2 * c] as i64;
     let cy = points[2 * c + 1] as i64;
@@ -124,7 +127,8 @@ fn twice_area(points: &[i32], a: usize, b: usize, c: usize) -> i64
     acx * bcy - acy * bcx
 }
 
-// Rule 5: twice the areas of the triples sum to twice the base's.
+// Rule 5: twice the areas of the triples sum to twice the base's. The sum fits, since there are at most 8,187 triples and each area is at
+// most 8 · 8,192² in size.
 pub fn areas_fill(points: &[i32], list: &[u32], cw: bool) -> bool
     requires { ⌜ Near (now points) ⌝ }
     requires { ⌜ (3 ≤ pointCount (now points)) × (cw ≡ clockwise (now points)) × Corners (pointCount (now points)) (now list) × (length (now list) ≤ 24561) ⌝ }
@@ -151,7 +155,7 @@ pub fn areas_fill(points: &[i32], list: &[u32], cw: bool) -> bool
 fn before(points: &[i32], i: usize, j: usize) -> bool
     requires { ⌜ Near (now points) ⌝ }
     requires { ⌜ (i < pointCount (now points)) × (j < pointCount (now points)) ⌝ }
-    ensures { λ r. ⌜ r ≡ before (point (now (points .entry)) i) (point (now (points .entry)) j) ⌝ }
+    ensures { λ r. ⌜ r ≡ comesBefore (now (points .entry)) i j ⌝ }
 {
     let px = points[2 * i];
     let qx = points[2 * j];
@@ -166,7 +170,7 @@ fn before(points: &[i32], i: usize, j: usize) -> bool
 fn lower(points: &[i32], i: usize, j: usize) -> usize
     requires { ⌜ Near (now points) ⌝ }
     requires { ⌜ (i < pointCount (now points)) × (j < pointCount (now points)) ⌝ }
-    ensures { λ r. ⌜ (r < pointCount (now (points .entry))) × (point (now (points .entry)) r ≡ cond (before (point (now (points .entry)) i) (point (now (points .entry)) j)) (point (now (points .entry)) i) (point (now (points .entry)) j)) ⌝ }
+    ensures { λ r. ⌜ (r < pointCount (now (points .entry))) × (point (now (points .entry)) r ≡ cond (comesBefore (now (points .entry)) i j) (point (now (points .entry)) i) (point (now (points .entry)) j)) ⌝ }
 {
     if before(points, i, j) { i } else { j }
 }
@@ -174,12 +178,12 @@ fn lower(points: &[i32], i: usize, j: usize) -> usize
 fn upper(points: &[i32], i: usize, j: usize) -> usize
     requires { ⌜ Near (now points) ⌝ }
     requires { ⌜ (i < pointCount (now points)) × (j < pointCount (now points)) ⌝ }
-    ensures { λ r. ⌜ (r < pointCount (now (points .entry))) × (point (now (points .entry)) r ≡ cond (before (point (now (points .entry)) i) (point (now (points .entry)) j)) (point (now (points .entry)) j) (point (now (points .entry)) i)) ⌝ }
+    ensures { λ r. ⌜ (r < pointCount (now (points .entry))) × (point (now (points .entry)) r ≡ cond (comesBefore (now (points .entry)) i j) (point (now (points .entry)) j) (point (now (points .entry)) i)) ⌝ }
 {
     if before(points, i, j) { j } else { i }
 }
 
-// The rank pair of c and d is below that of a and b. Points compare as their ranks do, so no rank is counted.
+// The rank pair of c and d is below that of a and b. Points compare as their ranks do, so the points are compared and no rank is counted.
 fn pair_below(points: &[i32], c: usize, d: usize, a: usize, b: usize) -> bool
     requires { ⌜ Near (now points) ⌝ }
     requires { ⌜ (a < pointCount (now points)) × (b < pointCount (now points)) × (c < pointCount (now points)) × (d < pointCount (now points)) ⌝ }
@@ -200,12 +204,13 @@ fn pair_below(points: &[i32], c: usize, d: usize, a: usize, b: usize) -> bool
 fn can_turn(points: &[i32], a: usize, b: usize, c: usize, d: usize) -> bool
     requires { ⌜ Near (now points) ⌝ }
     requires { ⌜ (a < pointCount (now points)) × (b < pointCount (now points)) × (c < pointCount (now points)) × (d < pointCount (now points)) ⌝ }
-    ensures { λ r. ⌜ r ≡ posb (orient (point (now (points .entry)) a) (point (now (points .entry)) d) (point (now (points .entry)) c)) && posb (orient (point (now (points .entry)) d) (point (now (points .entry)) b) (point (now (points .entry)) c)) ⌝ }
+    ensures { λ r. ⌜ r ≡ posb (area (now (points .entry)) a d c) && posb (area (now (points .entry)) d b c) ⌝ }
 {
     segments::is_left(points, a, d, c) && segments::is_left(points, d, b, c)
 }
 
-// Step 3 flips the edge a b, with c the far corner of its triangle and d that of its neighbour.
+// Step 3 flips the edge a b, with c the far corner of its triangle and d that of its neighbour. The circle sign decides nearly always, so
+// it is asked first, and the ranks only where it is zero.
 pub fn would_flip(points: &[i32], a: usize, b: usize, c: usize, d: usize) -> bool
     requires { ⌜ Near (now points) ⌝ }
     requires { ⌜ (a < pointCount (now points)) × (b < pointCount (now points)) × (c < pointCount (now points)) × (d < pointCount (now points)) ⌝ }
