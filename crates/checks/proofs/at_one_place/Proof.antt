@@ -1,0 +1,34 @@
+use borrow.Author.Needs.{needs}
+use lib.IntN.{ℤ}
+use mir.Syntax.{w32}
+use Rattle.plane.specs.Points.{Pt}
+use Rattle.tables.specs.Data.{point}
+use Rattle.checks.proofs.Bits.{same-yes, same-no}
+use Rattle.checks.proofs.at_one_place.Statement.{statement}
+use Rattle.checks.proofs.at_one_place.Tie as tie
+
+abbrev p : tie.Start → Pt ℤ
+p s = point (s .args .points .now) (s .args .i)
+
+abbrev q : tie.Start → Pt ℤ
+q s = point (s .args .points .now) (s .args .j)
+
+returns : tie.Need-returns
+unfolding point
+returns c =
+    let s = c .before .before .before in
+    same-yes w32 (p (s .before .before)) (q (s .before .before)) (record { sfits = s .before .if12 .given }) (record { sfits = s .if13 .given })
+    (record { sfits = c .before .result .given }) (record { sfits = c .result2 .given }) (c .before .before .if1 .taken)
+
+returns-2 : tie.Need-returns-2
+unfolding point
+returns-2 c =
+    let s = c .before in
+    same-no w32 (p (s .before .before)) (q (s .before .before)) (record { sfits = s .before .if12 .given }) (record { sfits = s .if13 .given }) (c .if1 .left)
+
+pub at-one-place-spec : {M : Type 1} → statement M
+at-one-place-spec =
+    tie.close (tie.spec
+    (λ c. search needs) (λ c. search needs) (λ c. search needs) (λ c. search needs) (λ c. search needs) (λ c. search needs)
+    (λ c. search needs) (λ c. search needs) (λ c. search needs) (λ c. search needs) (λ c. search needs) (λ c. search needs)
+    (λ c. search needs) (λ c. search needs) returns returns-2)
