@@ -1,0 +1,52 @@
+-- Points that are read from a list and passed to a call: each coordinate is within the limit, so it goes through bits unchanged.
+-- Assumes nothing.
+use mathlib.Core.Path.{_≡_, refl, ap, _∙_}
+use mathlib.Core.List.{List, [], _∷_}
+use Prim.Native.Nat.{ℕ, _+_, _*_}
+use lib.IntN.{ℤ, pos}
+use lib.ListN.{getD}
+use mir.Syntax.{w32}
+use Rattle.algebra.specs.Size.{Small}
+use Rattle.algebra.proofs.Ring.{look}
+use Rattle.algebra.proofs.Machine.{backs, backs-same, backs-small}
+use Rattle.plane.specs.Points.{Pt, at}
+use Rattle.signs.specs.Answers.{limit}
+use Rattle.tables.specs.Data.{point}
+use Rattle.segments.specs.Near.{Near}
+
+-- the coordinates of numbered points, in a row
+abbrev pub row : List ℤ → List ℕ → List ℤ
+row ps [] = []
+row ps (i ∷ is) = getD ps (2 * i) (pos 0) ∷ getD ps (2 * i + 1) (pos 0) ∷ row ps is
+
+abbrev pub three : {X : Type 0} → (Pt ℤ → Pt ℤ → Pt ℤ → X) → List ℤ → X
+three f ρ = f (at (look ρ 0) (look ρ 1)) (at (look ρ 2) (look ρ 3)) (at (look ρ 4) (look ρ 5))
+
+abbrev pub four : {X : Type 0} → (Pt ℤ → Pt ℤ → Pt ℤ → Pt ℤ → X) → List ℤ → X
+four f ρ = f (at (look ρ 0) (look ρ 1)) (at (look ρ 2) (look ρ 3)) (at (look ρ 4) (look ρ 5)) (at (look ρ 6) (look ρ 7))
+
+-- what a call was passed
+module _ (ρ : List ℤ) (h : Small limit ρ) where
+  pub passed3 : {X : Type 0} (f : Pt ℤ → Pt ℤ → Pt ℤ → X) → three f (backs w32 ρ) ≡ three f ρ
+  passed3 f = ap (three f) (backs-same w32 limit ρ h tt)
+
+  pub passed4 : {X : Type 0} (f : Pt ℤ → Pt ℤ → Pt ℤ → Pt ℤ → X) → four f (backs w32 ρ) ≡ four f ρ
+  passed4 f = ap (four f) (backs-same w32 limit ρ h tt)
+
+-- what was read of a list, and passed
+module _ (ps : List ℤ) (near : Near ps) where
+  pub near-row : (is : List ℕ) → Small limit (row ps is)
+  near-row [] = tt
+  near-row (i ∷ is) = (near (2 * i), (near (2 * i + 1), near-row is))
+
+  pub near-passed : (is : List ℕ) → Small limit (backs w32 (row ps is))
+  near-passed is = backs-small w32 limit (row ps is) (near-row is) tt
+
+  -- a call's result, of what it was passed
+  pub read3 : {X : Type 0} (f : Pt ℤ → Pt ℤ → Pt ℤ → X) (a b c : ℕ) {r : X} → r ≡ three f (backs w32 (row ps (a ∷ b ∷ c ∷ []))) → r ≡ f (point ps a) (point ps b) (point ps c)
+  unfolding point
+  read3 f a b c e = e ∙ passed3 (row ps (a ∷ b ∷ c ∷ [])) (near-row (a ∷ b ∷ c ∷ [])) f
+
+  pub read4 : {X : Type 0} (f : Pt ℤ → Pt ℤ → Pt ℤ → Pt ℤ → X) (a b c d : ℕ) {r : X} → r ≡ four f (backs w32 (row ps (a ∷ b ∷ c ∷ d ∷ []))) → r ≡ f (point ps a) (point ps b) (point ps c) (point ps d)
+  unfolding point
+  read4 f a b c d e = e ∙ passed4 (row ps (a ∷ b ∷ c ∷ d ∷ [])) (near-row (a ∷ b ∷ c ∷ d ∷ [])) f

@@ -1,0 +1,28 @@
+-- A test of a number's sign is the test of the number. Assumes nothing.
+use mathlib.Core.Path.{_≡_, refl, sym}
+use Prim.Native.Nat.{zero, suc}
+use native.Mathlib.Nat.{zero-lt-suc}
+use lib.Dec.{eqb·suc-zero}
+use lib.IntN.{ℤ, pos, negsuc, negℤ}
+use borrow.Author.Tests.{lt-ltb}
+use Rattle.algebra.specs.Tests.{posb, eqZ}
+use Rattle.signs.specs.Signs.{signZ}
+use Rattle.segments.specs.Tests.{isPos, isNeg, isZero}
+
+pub pos-test : (z : ℤ) → isPos (signZ z) ≡ posb z
+unfolding signZ
+pos-test (pos zero) = refl
+pos-test (pos (suc n)) = sym (lt-ltb 0 (suc n) (zero-lt-suc n))
+pos-test (negsuc n) = refl
+
+pub neg-test : (z : ℤ) → isNeg (signZ z) ≡ posb (negℤ z)
+unfolding signZ
+neg-test (pos zero) = refl
+neg-test (pos (suc n)) = refl
+neg-test (negsuc n) = sym (lt-ltb 0 (suc n) (zero-lt-suc n))
+
+pub zero-test : (z : ℤ) → isZero (signZ z) ≡ eqZ z (pos 0)
+unfolding signZ
+zero-test (pos zero) = refl
+zero-test (pos (suc n)) = sym (eqb·suc-zero n)
+zero-test (negsuc n) = refl

@@ -1,0 +1,131 @@
+// Segments between numbered points: the signs of points that are known to be near, a point strictly inside a segment, and two segments
+// that cross.
+//
+// Document 01, "Signs" and refusals 9 and 10, says what each call answers. Refusals 9 and 10 try each pair with each point and with each
+// other pair, and the boxes decide nearly all of these calls. So each call compares the coordinates first and asks for an orientation last.
+ghost use mathlib.Core.Path.{_≡_};
+ghost use mathlib.Core.List.{[], _∷_};
+ghost use Prim.Native.Nat.{_<_};
+ghost use lib.IntN.{pos, negℤ};
+ghost use Rattle.algebra.specs.Size.{Small};
+ghost use Rattle.algebra.specs.Tests.{posb, eqZ};
+ghost use Rattle.plane.specs.Points.{at};
+ghost use Rattle.plane.specs.Determinants.{orient, incircle};
+ghost use Rattle.signs.specs.Signs.{signZ};
+ghost use Rattle.signs.specs.Answers.{limit};
+ghost use Rattle.tables.specs.Data.{pointCount, point, same};
+ghost use Rattle.tables.specs.Refusals.{between, inSegment, crosses};
+ghost use Rattle.segments.specs.Near.{Near};
+ghost use Rattle.segments.specs.Tests.{signOf, isPos, isNeg, isZero, opposite, lower, upper, apart};
+use signs::Sign;
+use signs::WholeSign;
+
+// ---- signs
+
+// Points within the limit always have a sign, so the second case is never reached with them.
+fn known(answer: WholeSign) -> Sign
+    ensures { λ r. ⌜ r ≡ signOf answer ⌝ }
+{
+    match answer {
+        WholeSign::Known(s) => s,
+        WholeSign::OutOfRange => Sign::Zero,
+    }
+}
+
+fn is_pos(s: Sign) -> bool
+    ensures { λ r. ⌜ r ≡ isPos s ⌝ }
+{
+    match s {
+        Sign::Neg => false,
+        Sign::Zero => false,
+        Sign::Pos => true,
+    }
+}
+
+fn is_neg(s: Sign) -> bool
+    ensures { λ r. ⌜ r ≡ isNeg s ⌝ }
+{
+    match s {
+        Sign::Neg => true,
+        Sign::Zero => false,
+        Sign::Pos => false,
+    }
+}
+
+fn is_zero(s: Sign) -> bool
+    ensures { λ r. ⌜ r ≡ isZero s ⌝ }
+{
+    match s {
+        Sign::Neg => false,
+        Sign::Zero => true,
+        Sign::Pos => false,
+    }
+}
+
+fn orient_xy(ax: i32, ay: i32, bx: i32, by: i32, cx: i32, cy: i32) -> Sign
+    requires { ⌜ Small limit (ax ∷ ay ∷ bx ∷ by ∷ cx ∷ cy ∷ []) ⌝ }
+    ensures { λ r. ⌜ r ≡ signZ (orient (at ax ay) (at bx by) (at cx cy)) ⌝ }
+{
+    known(signs::orient_sign(ax, ay, bx, by, cx, cy))
+}
+
+// The sign of the orientation of three numbered points.
+pub fn orient_at(points: &[i32], a: usize, b: usize, c: usize) -> Sign
+    requires { ⌜ Near (now points) ⌝ }
+    requires { ⌜ (a < pointCount (now points)) × (b < pointCount (now points)) × (c < pointCount (now points)) ⌝ }
+    ensures { λ r. ⌜ r ≡ signZ (orient (point (now (points .entry)) a) (point (now (points .entry)) b) (point (now (points .entry)) c)) ⌝ }
+{
+    orient_xy(
+        points[2 * a],
+        points[2 * a + 1],
+        points[2 * b],
+        points[2 * b + 1],
+        points[2 * c],
+        points[2 * c + 1],
+    )
+}
+
+// c is strictly left of the line from a to b: the three are counterclockwise.
+pub fn is_left(points: &[i32], a: usize, b: usize, c: usize) -> bool
+    requires { ⌜ Near (now points) ⌝ }
+    requires { ⌜ (a < pointCount (now points)) × (b < pointCount (now points)) × (c < pointCount (now points)) ⌝ }
+    ensures { λ r. ⌜ r ≡ posb (orient (point (now (points .entry)) a) (point (now (points .entry)) b) (point (now (points .entry)) c)) ⌝ }
+{
+    is_pos(orient_at(points, a, b, c))
+}
+
+// c is strictly right of the line from a to b: the three are clockwise.
+pub fn is_right(points: &[i32], a: usize, b: usize, c: usize) -> bool
+    requires { ⌜ Near (now points) ⌝ }
+    requires { ⌜ (a < pointCount (now points)) × (b < pointCount (now points)) × (c < pointCount (now points)) ⌝ }
+    ensures { λ r. ⌜ r ≡ posb (negℤ (orient (point (now (points .entry)) a) (point (now (points .entry)) b) (point (now (points .entry)) c))) ⌝ }
+{
+    is_neg(orient_at(points, a, b, c))
+}
+
+// The three points have no area.
+pub fn is_flat(points: &[i32], a: usize, b: usize, c: usize) -> bool
+    requires { ⌜ Near (now points) ⌝ }
+    requires { ⌜ (a < pointCount (now points)) × (b < pointCount (now points)) × (c < pointCount (now points)) ⌝ }
+    ensures { λ r. ⌜ r ≡ eqZ (orient (point (now (points .entry)) a) (point (now (points .entry)) b) (point (now (points .entry)) c)) (pos 0) ⌝ }
+{
+    is_zero(orient_at(points, a, b, c))
+}
+
+// The circle sign of four numbered points.
+pub fn circle_at(points: &[i32], a: usize, b: usize, c: usize, d: usize) -> Sign
+    requires { ⌜ Near (now points) ⌝ }
+    requires { ⌜ (a < pointCount (now points)) × (b < pointCount (now points)) × (c < pointCount (now points)) × (d < pointCount (now points)) ⌝ }
+    ensures { λ r. ⌜ r ≡ signZ (incircle (point (now (points .entry)) a) (point (now (points .entry)) b) (point (now (points .entry)) c) (point (now (points .entry)) d)) ⌝ }
+{
+    known(signs::circle_sign(
+        points[2 * a],
+        points[2 * a + 1],
+        points[2 * b],
+        points[2 * b + 1],
+        points[2 * c],
+        points[2 * c + 1],
+        points[2 * d],
+        points[2 * d + 1],
+    ))
+}
