@@ -1,2 +1,4 @@
+pub mod Base
 pub mod Bits
+pub mod Cleared
 pub mod Lowest
