@@ -1,0 +1,4 @@
+pub mod Table
+pub mod Rules
+pub mod Meaning
+pub mod Ranks
