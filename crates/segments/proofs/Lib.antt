@@ -1,3 +1,6 @@
 mod Points
 mod Answers
 mod SignTests
+mod Compare
+mod Ranges
+mod Inside

@@ -1,6 +1,7 @@
 -- Points that are read from a list and passed to a call: each coordinate is within the limit, so it goes through bits unchanged.
 -- Assumes nothing.
-use mathlib.Core.Path.{_≡_, refl, ap, _∙_}
+use mathlib.Core.Path.{_≡_, sym, ap, _∙_}
+use mathlib.Core.Bool.{Bool}
 use mathlib.Core.List.{List, [], _∷_}
 use Prim.Native.Nat.{ℕ, _+_, _*_}
 use lib.IntN.{ℤ, pos}
@@ -32,6 +33,10 @@ module _ (ρ : List ℤ) (h : Small limit ρ) where
 
   pub passed4 : {X : Type 0} (f : Pt ℤ → Pt ℤ → Pt ℤ → Pt ℤ → X) → four f (backs w32 ρ) ≡ four f ρ
   passed4 f = ap (four f) (backs-same w32 limit ρ h tt)
+
+  -- a call told r, of what it was passed, and r is v
+  pub told3 : (f : Pt ℤ → Pt ℤ → Pt ℤ → Bool) {r v : Bool} → r ≡ three f (backs w32 ρ) → r ≡ v → three f ρ ≡ v
+  told3 f e h = sym (passed3 f) ∙ sym e ∙ h
 
 -- what was read of a list, and passed
 module _ (ps : List ℤ) (near : Near ps) where

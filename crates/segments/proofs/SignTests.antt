@@ -1,5 +1,6 @@
 -- A test of a number's sign is the test of the number. Assumes nothing.
-use mathlib.Core.Path.{_≡_, refl, sym}
+use mathlib.Core.Path.{_≡_, refl, sym, ap, _∙_}
+use mathlib.Core.Bool.{Bool}
 use Prim.Native.Nat.{zero, suc}
 use native.Mathlib.Nat.{zero-lt-suc}
 use lib.Dec.{eqb·suc-zero}
@@ -7,22 +8,34 @@ use lib.IntN.{ℤ, pos, negsuc, negℤ}
 use borrow.Author.Tests.{lt-ltb}
 use Rattle.algebra.specs.Tests.{posb, eqZ}
 use Rattle.signs.specs.Signs.{signZ}
+use Rattle.signs.specs.declared.Sign.{Sign}
 use Rattle.segments.specs.Tests.{isPos, isNeg, isZero}
 
-pub pos-test : (z : ℤ) → isPos (signZ z) ≡ posb z
+pos-test : (z : ℤ) → isPos (signZ z) ≡ posb z
 unfolding signZ
 pos-test (pos zero) = refl
 pos-test (pos (suc n)) = sym (lt-ltb 0 (suc n) (zero-lt-suc n))
 pos-test (negsuc n) = refl
 
-pub neg-test : (z : ℤ) → isNeg (signZ z) ≡ posb (negℤ z)
+neg-test : (z : ℤ) → isNeg (signZ z) ≡ posb (negℤ z)
 unfolding signZ
 neg-test (pos zero) = refl
 neg-test (pos (suc n)) = refl
 neg-test (negsuc n) = sym (lt-ltb 0 (suc n) (zero-lt-suc n))
 
-pub zero-test : (z : ℤ) → isZero (signZ z) ≡ eqZ z (pos 0)
+zero-test : (z : ℤ) → isZero (signZ z) ≡ eqZ z (pos 0)
 unfolding signZ
 zero-test (pos zero) = refl
 zero-test (pos (suc n)) = sym (eqb·suc-zero n)
 zero-test (negsuc n) = refl
+
+-- a call told r of a sign that another call told of z
+module _ (z : ℤ) {s : Sign} (e : s ≡ signZ z) {r : Bool} where
+  pub pos-told : r ≡ isPos s → r ≡ posb z
+  pos-told h = h ∙ ap isPos e ∙ pos-test z
+
+  pub neg-told : r ≡ isNeg s → r ≡ posb (negℤ z)
+  neg-told h = h ∙ ap isNeg e ∙ neg-test z
+
+  pub zero-told : r ≡ isZero s → r ≡ eqZ z (pos 0)
+  zero-told h = h ∙ ap isZero e ∙ zero-test z

@@ -129,3 +129,53 @@ pub fn circle_at(points: &[i32], a: usize, b: usize, c: usize, d: usize) -> Sign
         points[2 * d + 1],
     ))
 }
+
+// ---- a point in a segment
+
+// The differences from the two ends have no common sign. The product needs one test where the two orders of the ends would need four.
+fn between(a: i32, b: i32, z: i32) -> bool
+    requires { ⌜ Small limit (a ∷ b ∷ z ∷ []) ⌝ }
+    ensures { λ r. ⌜ r ≡ between a b z ⌝ }
+{
+    (z - a) * (z - b) <= 0
+}
+
+fn same(ax: i32, ay: i32, bx: i32, by: i32) -> bool
+    ensures { λ r. ⌜ r ≡ same (at ax ay) (at bx by) ⌝ }
+{
+    if ax == bx { ay == by } else { false }
+}
+
+// p lies strictly inside the segment from a to b.
+pub fn in_segment_xy(ax: i32, ay: i32, bx: i32, by: i32, px: i32, py: i32) -> bool
+    requires { ⌜ Small limit (ax ∷ ay ∷ bx ∷ by ∷ px ∷ py ∷ []) ⌝ }
+    ensures { λ r. ⌜ r ≡ inSegment (at ax ay) (at bx by) (at px py) ⌝ }
+{
+    if between(ax, bx, px) {
+        if between(ay, by, py) {
+            if is_zero(orient_xy(ax, ay, bx, by, px, py)) {
+                if same(px, py, ax, ay) {
+                    return false;
+                }
+                return !same(px, py, bx, by);
+            }
+        }
+    }
+    false
+}
+
+// The same of numbered points.
+pub fn in_segment(points: &[i32], a: usize, b: usize, p: usize) -> bool
+    requires { ⌜ Near (now points) ⌝ }
+    requires { ⌜ (a < pointCount (now points)) × (b < pointCount (now points)) × (p < pointCount (now points)) ⌝ }
+    ensures { λ r. ⌜ r ≡ inSegment (point (now (points .entry)) a) (point (now (points .entry)) b) (point (now (points .entry)) p) ⌝ }
+{
+    in_segment_xy(
+        points[2 * a],
+        points[2 * a + 1],
+        points[2 * b],
+        points[2 * b + 1],
+        points[2 * p],
+        points[2 * p + 1],
+    )
+}
