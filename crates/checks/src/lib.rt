@@ -6,8 +6,9 @@ ghost use lib.ListN.{length};
 ghost use Rattle.segments.specs.Near.{Near};
 ghost use Rattle.tables.specs.Answers.{lowest, ofChecked};
 ghost use Rattle.tables.specs.Data.{pointCount, pairCount, point, same, clockwise};
-ghost use Rattle.tables.specs.Refusals.{far, noArea, outside, again, badPair, rows, rows4to10, rows8to10};
+ghost use Rattle.tables.specs.Refusals.{far, noArea, outside, again, badPair, blocked, rows, rows4to10, rows8to10};
 ghost use Rattle.checks.specs.Base.{outsideOf};
+ghost use Rattle.checks.specs.Ends.{Ends};
 use tables::Checked;
 use tables::Lowest;
 use tables::Refusal;
@@ -153,6 +154,39 @@ pub fn bad_pair(pairs: &[u32], n: usize) -> Lowest
     let m = pairs.len() / 2;
     for k in 0..m {
         if is_bad(pairs, n, k) {
+            return Lowest::At(k);
+        }
+    }
+    Lowest::Nowhere
+}
+
+// ---- row 9
+
+fn is_blocked(points: &[i32], pairs: &[u32], k: usize) -> bool
+    requires { ⌜ Near (now points) ⌝ }
+    requires { ⌜ Ends (now points) (now pairs) ⌝ }
+    requires { ⌜ k < pairCount (now pairs) ⌝ }
+    ensures { λ r. ⌜ r ≡ blocked (now (points .entry)) (now (pairs .entry)) k ⌝ }
+{
+    let a = pairs[2 * k] as usize;
+    let b = pairs[2 * k + 1] as usize;
+    let n = points.len() / 2;
+    for i in 0..n {
+        if segments::in_segment(points, a, b, i) {
+            return true;
+        }
+    }
+    false
+}
+
+pub fn blocked_pair(points: &[i32], pairs: &[u32]) -> Lowest
+    requires { ⌜ Near (now points) ⌝ }
+    requires { ⌜ Ends (now points) (now pairs) ⌝ }
+    ensures { λ r. ⌜ r ≡ lowest (pairCount (now (pairs .entry))) (blocked (now (points .entry)) (now (pairs .entry))) ⌝ }
+{
+    let m = pairs.len() / 2;
+    for k in 0..m {
+        if is_blocked(points, pairs, k) {
             return Lowest::At(k);
         }
     }
