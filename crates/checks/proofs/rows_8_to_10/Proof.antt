@@ -26,4 +26,3 @@ returns-2 c = ?
 
 pub rows-8-to-10-spec : {M : Type 1} → statement M
 rows-8-to-10-spec =
-    tie.close (tie.spec bad-pair-requires enum-known-bad returns enum-told returns-2)
