@@ -4,3 +4,4 @@ pub mod Order
 pub mod Size
 pub mod Machine
 pub mod Sum
+pub mod Tests

@@ -1,0 +1,4 @@
+pub mod Cleared
+pub mod Last
+mod Index
+pub mod Search
