@@ -4,3 +4,5 @@ mod SignTests
 mod Compare
 mod Ranges
 mod Inside
+mod Ends
+mod Apart

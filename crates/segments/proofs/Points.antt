@@ -3,8 +3,9 @@
 use mathlib.Core.Path.{_≡_, sym, ap, _∙_}
 use mathlib.Core.Bool.{Bool}
 use mathlib.Core.List.{List, [], _∷_}
-use Prim.Native.Nat.{ℕ, _+_, _*_}
-use lib.IntN.{ℤ, pos}
+use Prim.Native.Nat.{ℕ, zero, suc, _+_, _*_, _≤_}
+use lib.Dec.{lit≤}
+use lib.IntN.{ℤ, pos, natAbs}
 use lib.ListN.{getD}
 use mir.Syntax.{w32}
 use Rattle.algebra.specs.Size.{Small}
@@ -26,6 +27,15 @@ three f ρ = f (at (look ρ 0) (look ρ 1)) (at (look ρ 2) (look ρ 3)) (at (lo
 abbrev pub four : {X : Type 0} → (Pt ℤ → Pt ℤ → Pt ℤ → Pt ℤ → X) → List ℤ → X
 four f ρ = f (at (look ρ 0) (look ρ 1)) (at (look ρ 2) (look ρ 3)) (at (look ρ 4) (look ρ 5)) (at (look ρ 6) (look ρ 7))
 
+abbrev pub looks : List ℤ → List ℕ → List ℤ
+looks ρ [] = []
+looks ρ (i ∷ is) = look ρ i ∷ looks ρ is
+
+pub look-small : (ρ : List ℤ) → Small limit ρ → (i : ℕ) → natAbs (look ρ i) ≤ limit
+look-small [] h i = lit≤ tt
+look-small (x ∷ xs) h zero = h .0
+look-small (x ∷ xs) h (suc i) = look-small xs (h .1) i
+
 -- what a call was passed
 module _ (ρ : List ℤ) (h : Small limit ρ) where
   pub passed3 : {X : Type 0} (f : Pt ℤ → Pt ℤ → Pt ℤ → X) → three f (backs w32 ρ) ≡ three f ρ
@@ -37,6 +47,14 @@ module _ (ρ : List ℤ) (h : Small limit ρ) where
   -- a call told r, of what it was passed, and r is v
   pub told3 : (f : Pt ℤ → Pt ℤ → Pt ℤ → Bool) {r v : Bool} → r ≡ three f (backs w32 ρ) → r ≡ v → three f ρ ≡ v
   told3 f e h = sym (passed3 f) ∙ sym e ∙ h
+
+  pub told4 : (f : Pt ℤ → Pt ℤ → Pt ℤ → Pt ℤ → Bool) {r v : Bool} → r ≡ four f (backs w32 ρ) → r ≡ v → four f ρ ≡ v
+  told4 f e h = sym (passed4 f) ∙ sym e ∙ h
+
+  -- some of what was passed is passed again
+  pub again : (is : List ℕ) → Small limit (looks (backs w32 ρ) is)
+  again [] = tt
+  again (i ∷ is) = (look-small (backs w32 ρ) (backs-small w32 limit ρ h tt) i, again is)
 
 -- what was read of a list, and passed
 module _ (ps : List ℤ) (near : Near ps) where

@@ -179,3 +179,77 @@ pub fn in_segment(points: &[i32], a: usize, b: usize, p: usize) -> bool
         points[2 * p + 1],
     )
 }
+
+// ---- segments that cross
+
+fn lower(a: i32, b: i32) -> i32
+    ensures { λ r. ⌜ r ≡ lower a b ⌝ }
+{
+    if a < b { a } else { b }
+}
+
+fn upper(a: i32, b: i32) -> i32
+    ensures { λ r. ⌜ r ≡ upper a b ⌝ }
+{
+    if a < b { b } else { a }
+}
+
+// The ranges have a gap between them. The product needs one test where the two sides of the gap would need two.
+fn ranges_apart(a: i32, b: i32, c: i32, d: i32) -> bool
+    requires { ⌜ Small limit (a ∷ b ∷ c ∷ d ∷ []) ⌝ }
+    ensures { λ r. ⌜ r ≡ apart a b c d ⌝ }
+{
+    (lower(c, d) - upper(a, b)) * (lower(a, b) - upper(c, d)) < 0
+}
+
+fn opposite(s: Sign, t: Sign) -> bool
+    ensures { λ r. ⌜ r ≡ opposite s t ⌝ }
+{
+    match s {
+        Sign::Neg => is_pos(t),
+        Sign::Zero => false,
+        Sign::Pos => is_neg(t),
+    }
+}
+
+// The segments from a to b and from c to d cross properly: the ends of each lie strictly on both sides of the other's line.
+pub fn crosses_xy(ax: i32, ay: i32, bx: i32, by: i32, cx: i32, cy: i32, dx: i32, dy: i32) -> bool
+    requires { ⌜ Small limit (ax ∷ ay ∷ bx ∷ by ∷ cx ∷ cy ∷ dx ∷ dy ∷ []) ⌝ }
+    ensures { λ r. ⌜ r ≡ crosses (at ax ay) (at bx by) (at cx cy) (at dx dy) ⌝ }
+{
+    if ranges_apart(ax, bx, cx, dx) {
+        return false;
+    }
+    if ranges_apart(ay, by, cy, dy) {
+        return false;
+    }
+    if opposite(
+        orient_xy(ax, ay, bx, by, cx, cy),
+        orient_xy(ax, ay, bx, by, dx, dy),
+    ) {
+        opposite(
+            orient_xy(cx, cy, dx, dy, ax, ay),
+            orient_xy(cx, cy, dx, dy, bx, by),
+        )
+    } else {
+        false
+    }
+}
+
+// The same of numbered points.
+pub fn crosses(points: &[i32], a: usize, b: usize, c: usize, d: usize) -> bool
+    requires { ⌜ Near (now points) ⌝ }
+    requires { ⌜ (a < pointCount (now points)) × (b < pointCount (now points)) × (c < pointCount (now points)) × (d < pointCount (now points)) ⌝ }
+    ensures { λ r. ⌜ r ≡ crosses (point (now (points .entry)) a) (point (now (points .entry)) b) (point (now (points .entry)) c) (point (now (points .entry)) d) ⌝ }
+{
+    crosses_xy(
+        points[2 * a],
+        points[2 * a + 1],
+        points[2 * b],
+        points[2 * b + 1],
+        points[2 * c],
+        points[2 * c + 1],
+        points[2 * d],
+        points[2 * d + 1],
+    )
+}
