@@ -17,7 +17,7 @@ use Rattle.tables.specs.Data.{pointCount, pairCount, point, endA, endB}
 use Rattle.tables.specs.Refusals.{far, badPair}
 use Rattle.tables.specs.declared.Lowest.the-variants.{Nowhere}
 use Rattle.tables.proofs.Table.{and-true, or-false, lowest-nowhere}
-use Rattle.checks.specs.Ends.{Ends}
+use Rattle.pair_checks.specs.Ends.{Ends}
 
 -- a fact of the places 2k and 2k + 1 below an even length is one of every place there
 by-halves : (P : ℕ → Type 0) (n : ℕ) → n % 2 ≡ 0 → ((k : ℕ) → k < n / 2 → P (2 * k) × P (2 * k + 1)) → (i : ℕ) → i < n → P i

@@ -1,4 +1,2 @@
 pub mod Base
-pub mod Bits
 pub mod Cleared
-pub mod Lowest

@@ -1,14 +1,13 @@
-// Refusals 1 to 10 of document 01's table. Each row with a place has a search for it, and `rows` asks them in the table's order. The
-// promises are over the definitions of crate tables: Data, Refusals, Answers.
+// Refusals 1 to 10 of document 01's table. Rows 4 to 7, whose places are points, have a search each, and `rows` asks every row in the
+// table's order; rows 8 to 10 are crate pair_checks. The promises are over the definitions of crate tables: Data, Refusals, Answers.
 ghost use mathlib.Core.Path.{_≡_};
 ghost use Prim.Native.Nat.{_%_, _≤_, _<_};
 ghost use lib.ListN.{length};
 ghost use Rattle.segments.specs.Near.{Near};
 ghost use Rattle.tables.specs.Answers.{lowest, ofChecked};
-ghost use Rattle.tables.specs.Data.{pointCount, pairCount, point, same, clockwise};
-ghost use Rattle.tables.specs.Refusals.{far, noArea, outside, again, badPair, blocked, rows, rows4to10, rows8to10};
+ghost use Rattle.tables.specs.Data.{pointCount, point, same, clockwise};
+ghost use Rattle.tables.specs.Refusals.{far, noArea, outside, again, rows, rows4to10, rows8to10};
 ghost use Rattle.checks.specs.Base.{outsideOf};
-ghost use Rattle.checks.specs.Ends.{Ends};
 use tables::Checked;
 use tables::Lowest;
 use tables::Refusal;
@@ -131,68 +130,6 @@ pub fn equal_point(points: &[i32]) -> Lowest
     Lowest::Nowhere
 }
 
-// ---- row 8
-
-fn is_bad(pairs: &[u32], n: usize, k: usize) -> bool
-    requires { ⌜ k < pairCount (now pairs) ⌝ }
-    ensures { λ r. ⌜ r ≡ badPair n (now (pairs .entry)) k ⌝ }
-{
-    let a = pairs[2 * k] as usize;
-    let b = pairs[2 * k + 1] as usize;
-    if n <= a {
-        return true;
-    }
-    if n <= b {
-        return true;
-    }
-    a == b
-}
-
-pub fn bad_pair(pairs: &[u32], n: usize) -> Lowest
-    ensures { λ r. ⌜ r ≡ lowest (pairCount (now (pairs .entry))) (badPair n (now (pairs .entry))) ⌝ }
-{
-    let m = pairs.len() / 2;
-    for k in 0..m {
-        if is_bad(pairs, n, k) {
-            return Lowest::At(k);
-        }
-    }
-    Lowest::Nowhere
-}
-
-// ---- row 9
-
-fn is_blocked(points: &[i32], pairs: &[u32], k: usize) -> bool
-    requires { ⌜ Near (now points) ⌝ }
-    requires { ⌜ Ends (now points) (now pairs) ⌝ }
-    requires { ⌜ k < pairCount (now pairs) ⌝ }
-    ensures { λ r. ⌜ r ≡ blocked (now (points .entry)) (now (pairs .entry)) k ⌝ }
-{
-    let a = pairs[2 * k] as usize;
-    let b = pairs[2 * k + 1] as usize;
-    let n = points.len() / 2;
-    for i in 0..n {
-        if segments::in_segment(points, a, b, i) {
-            return true;
-        }
-    }
-    false
-}
-
-pub fn blocked_pair(points: &[i32], pairs: &[u32]) -> Lowest
-    requires { ⌜ Near (now points) ⌝ }
-    requires { ⌜ Ends (now points) (now pairs) ⌝ }
-    ensures { λ r. ⌜ r ≡ lowest (pairCount (now (pairs .entry))) (blocked (now (points .entry)) (now (pairs .entry))) ⌝ }
-{
-    let m = pairs.len() / 2;
-    for k in 0..m {
-        if is_blocked(points, pairs, k) {
-            return Lowest::At(k);
-        }
-    }
-    Lowest::Nowhere
-}
-
 // ---- the table's order
 
 fn rows_8_to_10(points: &[i32], pairs: &[u32]) -> Checked
@@ -200,9 +137,17 @@ fn rows_8_to_10(points: &[i32], pairs: &[u32]) -> Checked
     requires { ⌜ length (now pairs) % 2 ≡ 0 ⌝ }
     ensures { λ r. ⌜ ofChecked r ≡ rows8to10 (now (points .entry)) (now (pairs .entry)) ⌝ }
 {
-    let bad = bad_pair(pairs, points.len() / 2);
+    let bad = pair_checks::bad_pair(pairs, points.len() / 2);
     if let Lowest::At(k) = bad {
         return Checked::Refused(Refusal::BadPair(k));
+    }
+    let blocked = pair_checks::blocked_pair(points, pairs);
+    if let Lowest::At(k) = blocked {
+        return Checked::Refused(Refusal::BlockedPair(k));
+    }
+    let crossing = pair_checks::crossing_pair(points, pairs);
+    if let Lowest::At(k) = crossing {
+        return Checked::Refused(Refusal::CrossingPair(k));
     }
     Checked::Passed
 }

@@ -1,7 +1,7 @@
 mod Points
 mod Answers
 mod SignTests
-mod Compare
+pub mod Compare
 mod Ranges
 mod Inside
 mod Ends

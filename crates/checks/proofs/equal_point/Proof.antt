@@ -3,7 +3,7 @@ use Prim.Native.Nat.{ℕ, _-_, _/_}
 use native.Mathlib.Omega.{arith}
 use lib.ListN.{length}
 use Rattle.tables.specs.Refusals.{again}
-use Rattle.checks.proofs.Lowest.{Searched, start, more, found, ended}
+use Rattle.pair_checks.proofs.Lowest.{Searched, start, more, found, ended}
 use Rattle.checks.proofs.equal_point.Statement.{statement}
 use Rattle.checks.proofs.equal_point.Tie as tie
 

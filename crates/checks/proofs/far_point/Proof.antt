@@ -3,7 +3,7 @@ use Prim.Native.Nat.{ℕ, _-_, _/_}
 use native.Mathlib.Omega.{arith}
 use lib.ListN.{length}
 use Rattle.tables.specs.Refusals.{far}
-use Rattle.checks.proofs.Lowest.{Searched, start, more, found, ended}
+use Rattle.pair_checks.proofs.Lowest.{Searched, start, more, found, ended}
 use Rattle.checks.proofs.far_point.Statement.{statement}
 use Rattle.checks.proofs.far_point.Tie as tie
 

@@ -2,7 +2,7 @@ use mathlib.Core.Path.{_≡_}
 use Prim.Native.Nat.{ℕ, _-_}
 use native.Mathlib.Omega.{arith}
 use Rattle.tables.specs.Data.{point, same}
-use Rattle.checks.proofs.Lowest.{Searched, start, more, found-any, ended-any}
+use Rattle.pair_checks.proofs.Lowest.{Searched, start, more, found-any, ended-any}
 use Rattle.checks.proofs.seen_before.Statement.{statement}
 use Rattle.checks.proofs.seen_before.Tie as tie
 

@@ -2,8 +2,8 @@ use borrow.Author.Needs.{needs}
 use borrow.Author.Tests.{le-leb, lt-leb}
 use Prim.Native.Nat.{_+_, _*_}
 use native.Mathlib.Omega.{arith}
-use Rattle.checks.proofs.is_bad.Statement.{statement}
-use Rattle.checks.proofs.is_bad.Tie as tie
+use Rattle.pair_checks.proofs.is_bad.Statement.{statement}
+use Rattle.pair_checks.proofs.is_bad.Tie as tie
 
 cast-a : tie.Need-cast-a
 cast-a c = omega (arith, c .shared-slice-known .given (2 * c .before .args .k))

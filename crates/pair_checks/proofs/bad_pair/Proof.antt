@@ -3,9 +3,9 @@ use Prim.Native.Nat.{ℕ, _-_, _/_}
 use native.Mathlib.Omega.{arith}
 use lib.ListN.{length}
 use Rattle.tables.specs.Refusals.{badPair}
-use Rattle.checks.proofs.Lowest.{Searched, start, more, found, ended}
-use Rattle.checks.proofs.bad_pair.Statement.{statement}
-use Rattle.checks.proofs.bad_pair.Tie as tie
+use Rattle.pair_checks.proofs.Lowest.{Searched, start, more, found, ended}
+use Rattle.pair_checks.proofs.bad_pair.Statement.{statement}
+use Rattle.pair_checks.proofs.bad_pair.Tie as tie
 
 abbrev Inv-loop : tie.InvT-loop
 Inv-loop pairs n m k₀ k = Searched m (badPair n pairs) k

@@ -3,9 +3,9 @@ use Prim.Native.Nat.{ℕ, _-_, _/_}
 use native.Mathlib.Omega.{arith}
 use lib.ListN.{length}
 use Rattle.tables.specs.Refusals.{blocked}
-use Rattle.checks.proofs.Lowest.{Searched, start, more, found, ended}
-use Rattle.checks.proofs.blocked_pair.Statement.{statement}
-use Rattle.checks.proofs.blocked_pair.Tie as tie
+use Rattle.pair_checks.proofs.Lowest.{Searched, start, more, found, ended}
+use Rattle.pair_checks.proofs.blocked_pair.Statement.{statement}
+use Rattle.pair_checks.proofs.blocked_pair.Tie as tie
 
 abbrev Inv-loop : tie.InvT-loop
 Inv-loop points pairs m k₀ k = Searched m (blocked points pairs) k

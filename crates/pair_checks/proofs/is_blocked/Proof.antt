@@ -3,9 +3,9 @@ use Prim.Native.Nat.{ℕ, _+_, _*_, _-_, _<_}
 use native.Mathlib.Omega.{arith}
 use Rattle.tables.specs.Data.{point}
 use Rattle.tables.specs.Refusals.{inSegment}
-use Rattle.checks.proofs.Lowest.{Searched, start, more, found-any, ended-any}
-use Rattle.checks.proofs.is_blocked.Statement.{statement}
-use Rattle.checks.proofs.is_blocked.Tie as tie
+use Rattle.pair_checks.proofs.Lowest.{Searched, start, more, found-any, ended-any}
+use Rattle.pair_checks.proofs.is_blocked.Statement.{statement}
+use Rattle.pair_checks.proofs.is_blocked.Tie as tie
 
 abbrev Inv-loop : tie.InvT-loop
 Inv-loop points pairs k a b n i₀ i = Searched n (λ p. inSegment (point points a) (point points b) (point points p)) i
