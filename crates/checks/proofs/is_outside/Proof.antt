@@ -1,21 +1,24 @@
 use borrow.Author.Needs.{needs}
-use mathlib.Core.Path.{_≡_, sym, _∙_}
+use Rattle.checks.proofs.Base.{right-first, right-second, right-third}
 use Rattle.checks.proofs.is_outside.Statement.{statement}
 use Rattle.checks.proofs.is_outside.Tie as tie
 
 returns : tie.Need-returns
-returns c = rw (sym (c .before .is-right .ensures) ∙ c .if1 .taken)
+returns c =
+    let a = c .before .before .args in right-first (a .points .now) (a .b) (a .c) (a .i) (c .before .is-right .ensures) (c .if1 .taken)
 
 returns-2 : tie.Need-returns-2
 returns-2 c =
-    let s = c .before .before in
-    rw (sym (s .before .is-right .ensures) ∙ s .if1 .left, sym (c .before .is-right2 .ensures) ∙ c .if2 .taken)
+    let p = c .before .before in
+    let a = p .before .before .args in
+    right-second (a .points .now) (a .b) (a .c) (a .i) (p .before .is-right .ensures) (p .if1 .left) (c .before .is-right2 .ensures) (c .if2 .taken)
 
 returns-3 : tie.Need-returns-3
 returns-3 c =
-    let t = c .before in
-    let s = t .before .before in
-    rw (sym (s .before .is-right .ensures) ∙ s .if1 .left, sym (t .before .is-right2 .ensures) ∙ t .if2 .left) (c .is-right3 .ensures)
+    let q = c .before in
+    let p = q .before .before in
+    let a = p .before .before .args in
+    right-third (a .points .now) (a .b) (a .c) (a .i) (p .before .is-right .ensures) (p .if1 .left) (q .before .is-right2 .ensures) (q .if2 .left) (c .is-right3 .ensures)
 
 pub is-outside-spec : {M : Type 1} → statement M
 is-outside-spec =
