@@ -1,8 +1,8 @@
-mod Points
+pub mod Points
+pub mod Compare
+pub mod Ranges
+pub mod Apart
 mod Answers
 mod SignTests
-mod Compare
-mod Ranges
 mod Inside
 mod Ends
-mod Apart
