@@ -1,4 +1,4 @@
--- What the calls of crate signs answer for points within the limit: the sign, which is always known. Assumes nothing.
+-- The calls of crate signs always know the sign of points within the limit. Assumes nothing.
 use mathlib.Core.Path.{_≡_, ap, _∙_}
 use mathlib.Core.Bool.{true}
 use mathlib.Core.List.{List, [], _∷_}
@@ -27,7 +27,7 @@ module _ (ax ay bx by cx cy : ℤ) where
   unfolding orientAnswer
   orient-known (h0, (h1, (h2, (h3, (h4, (h5, u)))))) = rw (test ax h0, test ay h1, test bx h2, test by h3, test cx h4, test cy h5)
 
-  -- a call's answer, for coordinates that went through bits
+  -- The call was passed coordinates that went through bits.
   pub orient-told : Small limit (ax ∷ ay ∷ bx ∷ by ∷ cx ∷ cy ∷ []) → {r : WholeSign} → r ≡ three (orientAnswer limit) (backs w32 (ax ∷ ay ∷ bx ∷ by ∷ cx ∷ cy ∷ [])) →
       signOf r ≡ signZ (orient (at ax ay) (at bx by) (at cx cy))
   orient-told h e = ap signOf (e ∙ passed3 (ax ∷ ay ∷ bx ∷ by ∷ cx ∷ cy ∷ []) h (orientAnswer limit)) ∙ orient-known h
@@ -38,7 +38,7 @@ unfolding circleAnswer
 circle-known ax ay bx by cx cy dx dy (h0, (h1, (h2, (h3, (h4, (h5, (h6, (h7, u)))))))) =
     rw (test ax h0, test ay h1, test bx h2, test by h3, test cx h4, test cy h5, test dx h6, test dy h7)
 
--- of numbered points
+-- The call was passed the coordinates of numbered points.
 pub circle-read : (ps : List ℤ) → Near ps → (a b c d : ℕ) {ρ : List ℤ} → ρ ≡ row ps (a ∷ b ∷ c ∷ d ∷ []) → {r : WholeSign} → r ≡ four (circleAnswer limit) (backs w32 ρ) →
     signOf r ≡ signZ (incircle (point ps a) (point ps b) (point ps c) (point ps d))
 circle-read ps near a b c d e h =

@@ -2,7 +2,7 @@
 -- of either segment; so with the orientations for weights, the differences between the ends of one and the ends of the other add to zero,
 -- and they cannot all have one sign. Assumes nothing.
 use mathlib.Core.Path.{_≡_, refl, sym, ap, _∙_, subst}
-use mathlib.Core.Bool.{Bool, true, false, not, cond, _&&_, _||_, true≢false, false≢true}
+use mathlib.Core.Bool.{Bool, true, false, not, _&&_, _||_, false≢true}
 use mathlib.Core.List.{[], _∷_}
 use lib.IntN.{ℤ, pos, negℤ, _+ℤ_, _-ℤ_, _*ℤ_, zero-*ℤ, *ℤ-zero, +ℤ-invr, +ℤ-idl}
 use lib.Signed.{ltZ}
@@ -63,12 +63,12 @@ below a b e = nn-by (sym (swap b a)) (not-posb (b -ℤ a) (sym (lt-sub a b) ∙ 
 itself : (a : ℤ) → NonNeg (a -ℤ a)
 itself a = nn-zero (a -ℤ a) (+ℤ-invr a)
 
--- y is at most u, u is below l, and l is at most x
+-- Here y is at most u, u is below l, and l is at most x.
 over : (x l u y : ℤ) → NonNeg (x -ℤ l) → Pos (l -ℤ u) → NonNeg (u -ℤ y) → Pos (x -ℤ y)
 over x l u y h i j =
     pos-by (solve (var 0 ⊖ var 3) ((var 0 ⊖ var 1) ⊕ (var 1 ⊖ var 2) ⊕ (var 2 ⊖ var 3)) (x ∷ l ∷ u ∷ y ∷ []) tt) (pos+nn (nn+pos h i) j)
 
--- the range of a and b lies below that of c and d
+-- Here the range of a and b lies below that of c and d.
 module _ (a b c d : ℤ) (h : Pos (lower c d -ℤ upper a b)) where
   a-under : NonNeg (upper a b -ℤ a)
   a-under = by-bool (ltZ a b) (λ e. rw e (above a b e)) (λ e. rw e (itself a))

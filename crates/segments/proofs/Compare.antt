@@ -1,11 +1,11 @@
--- Comparisons of whole numbers as tests of their difference, and equality as the bits tell it. Assumes nothing.
+-- A comparison of whole numbers is a test of their difference, and equality is what the bits tell. Assumes nothing.
 use mathlib.Core.Path.{_≡_, refl, sym, ap, ap₂, _∙_, subst}
 use mathlib.Core.Bool.{Bool, true, false, not}
-use Prim.Native.Nat.{ℕ, zero, suc, _+_, _-_, _≤_, _<_}
+use Prim.Native.Nat.{ℕ, zero, suc, _+_, _-_}
 use native.Mathlib.Nat.{add-zero}
 use native.Mathlib.Omega.{arith}
 use lib.Dec.{T, leb, ltb, eqb, leb·suc-suc, leb·suc-zero}
-use lib.IntN.{ℤ, pos, negsuc, subℕ, negℤ, _-ℤ_}
+use lib.IntN.{ℤ, pos, negsuc, subℕ, _-ℤ_}
 use lib.Signed.{ltZ, leZ}
 use mir.Syntax.{Width}
 use mir.Val.{SFits, ofZ, toZ}
@@ -45,7 +45,7 @@ le-not (pos m) (negsuc n) = refl
 le-not (negsuc m) (pos n) = refl
 le-not (negsuc m) (negsuc n) = le-not′ n m
 
--- the numbers that were compared went through bits
+-- The code compares numbers that went through bits.
 pub lt-read : (w : Width) (a b : ℤ) → SFits w a → SFits w b → {v : Bool} → ltZ (back w a) (back w b) ≡ v → ltZ a b ≡ v
 lt-read w a b f g e = sym (ap₂ ltZ (toZ-ofZ f) (toZ-ofZ g)) ∙ e
 

@@ -1,4 +1,5 @@
--- The tests of a point in a segment and of a crossing, from the answers of their parts. Assumes nothing.
+-- A point in a segment and a crossing are told by the answers of their parts. An answer that settles the test leaves the later ones
+-- open. Assumes nothing.
 use mathlib.Core.Path.{_≡_, ap₂}
 use mathlib.Core.Bool.{Bool, not, _&&_}
 use lib.IntN.{ℤ, pos}

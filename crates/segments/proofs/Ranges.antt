@@ -26,7 +26,7 @@ side z = go (sign z)
     go (is-neg h) = on false h
     go (is-zero e) = nil e
 
--- what the tests say
+-- The side tells what the tests of a number's sign answer.
 pub on-pos : (s : Bool) (z : ℤ) → Pos (sg s z) → posb z ≡ s
 on-pos true z h = posb-yes z h
 on-pos false z h = posb-no z h

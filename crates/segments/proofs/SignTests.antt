@@ -40,7 +40,7 @@ opposite-test (pos (suc n)) z = rw (lt-ltb 0 (suc n) (zero-lt-suc n)) (neg-test 
     only false = refl
 opposite-test (negsuc n) z = rw (lt-ltb 0 (suc n) (zero-lt-suc n)) (pos-test z)
 
--- a call told r of a sign that another call told of z
+-- A call told r of the sign that another call told of z.
 module _ (z : ℤ) {s : Sign} (e : s ≡ signZ z) {r : Bool} where
   pub pos-told : r ≡ isPos s → r ≡ posb z
   pos-told h = h ∙ ap isPos e ∙ pos-test z

@@ -1,4 +1,4 @@
--- Every coordinate is within the limit. Definitions only.
+-- Every coordinate of a list of points is within the limit. Definitions only.
 use mathlib.Core.List.{List}
 use Prim.Native.Nat.{ℕ, _≤_}
 use lib.IntN.{ℤ, pos, natAbs}

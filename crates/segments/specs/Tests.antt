@@ -7,7 +7,7 @@ use Rattle.signs.specs.declared.Sign.the-variants.{Neg, Zero, Pos}
 use Rattle.signs.specs.declared.WholeSign.{WholeSign}
 use Rattle.signs.specs.declared.WholeSign.the-variants.{Known, OutOfRange}
 
--- the sign of an answer; out of range, which no near point is, gives zero
+-- This is the sign of an answer. Points within the limit are never out of range, so what that gives does not matter.
 abbrev pub signOf : WholeSign → Sign
 signOf (Known s) = s
 signOf OutOfRange = Zero
@@ -27,7 +27,7 @@ isZero Neg = false
 isZero Zero = true
 isZero Pos = false
 
--- one is positive and the other negative
+-- One is positive and the other is negative.
 abbrev pub opposite : Sign → Sign → Bool
 opposite Neg t = isPos t
 opposite Zero t = false

@@ -20,7 +20,7 @@ ghost use Rattle.segments.specs.Tests.{signOf, isPos, isNeg, isZero, opp
 use signs::Sign;
 use signs::WholeSign;
 
-// ---- numbered points
+// ---- numbered points: the x of point i stands at place 2i, and its y at the next
 
 pub fn x_at(points: &[i32], i: usize) -> i32
     requires { ⌜ i < pointCount (now points) ⌝ }
@@ -91,14 +91,13 @@ pub fn orient_at(points: &[i32], a: usize, b: usize, c: usize) -> Sign
     requires { ⌜ (a < pointCount (now points)) × (b < pointCount (now points)) × (c < pointCount (now points)) ⌝ }
     ensures { λ r. ⌜ r ≡ signZ (orient (point (now (points .entry)) a) (point (now (points .entry)) b) (point (now (points .entry)) c)) ⌝ }
 {
-    orient_xy(
-        x_at(points, a),
-        y_at(points, a),
-        x_at(points, b),
-        y_at(points, b),
-        x_at(points, c),
-        y_at(points, c),
-    )
+    let ax = x_at(points, a);
+    let ay = y_at(points, a);
+    let bx = x_at(points, b);
+    let by = y_at(points, b);
+    let cx = x_at(points, c);
+    let cy = y_at(points, c);
+    orient_xy(ax, ay, bx, by, cx, cy)
 }
 
 // c is strictly left of the line from a to b: the three are counterclockwise.
@@ -134,16 +133,15 @@ pub fn circle_at(points: &[i32], a: usize, b: usize, c: usize, d: usize) -> Sign
     requires { ⌜ (a < pointCount (now points)) × (b < pointCount (now points)) × (c < pointCount (now points)) × (d < pointCount (now points)) ⌝ }
     ensures { λ r. ⌜ r ≡ signZ (incircle (point (now (points .entry)) a) (point (now (points .entry)) b) (point (now (points .entry)) c) (point (now (points .entry)) d)) ⌝ }
 {
-    known(signs::circle_sign(
-        x_at(points, a),
-        y_at(points, a),
-        x_at(points, b),
-        y_at(points, b),
-        x_at(points, c),
-        y_at(points, c),
-        x_at(points, d),
-        y_at(points, d),
-    ))
+    let ax = x_at(points, a);
+    let ay = y_at(points, a);
+    let bx = x_at(points, b);
+    let by = y_at(points, b);
+    let cx = x_at(points, c);
+    let cy = y_at(points, c);
+    let dx = x_at(points, d);
+    let dy = y_at(points, d);
+    known(signs::circle_sign(ax, ay, bx, by, cx, cy, dx, dy))
 }
 
 // ---- a point in a segment
@@ -186,14 +184,13 @@ pub fn in_segment(points: &[i32], a: usize, b: usize, p: usize) -> bool
     requires { ⌜ (a < pointCount (now points)) × (b < pointCount (now points)) × (p < pointCount (now points)) ⌝ }
     ensures { λ r. ⌜ r ≡ inSegment (point (now (points .entry)) a) (point (now (points .entry)) b) (point (now (points .entry)) p) ⌝ }
 {
-    in_segment_xy(
-        x_at(points, a),
-        y_at(points, a),
-        x_at(points, b),
-        y_at(points, b),
-        x_at(points, p),
-        y_at(points, p),
-    )
+    let ax = x_at(points, a);
+    let ay = y_at(points, a);
+    let bx = x_at(points, b);
+    let by = y_at(points, b);
+    let px = x_at(points, p);
+    let py = y_at(points, p);
+    in_segment_xy(ax, ay, bx, by, px, py)
 }
 
 // ---- segments that cross
@@ -239,14 +236,12 @@ pub fn crosses_xy(ax: i32, ay: i32, bx: i32, by: i32, cx: i32, cy: i32, dx: i32,
     if ranges_apart(ay, by, cy, dy) {
         return false;
     }
-    if opposite(
-        orient_xy(ax, ay, bx, by, cx, cy),
-        orient_xy(ax, ay, bx, by, dx, dy),
-    ) {
-        opposite(
-            orient_xy(cx, cy, dx, dy, ax, ay),
-            orient_xy(cx, cy, dx, dy, bx, by),
-        )
+    let c_side = orient_xy(ax, ay, bx, by, cx, cy);
+    let d_side = orient_xy(ax, ay, bx, by, dx, dy);
+    if opposite(c_side, d_side) {
+        let a_side = orient_xy(cx, cy, dx, dy, ax, ay);
+        let b_side = orient_xy(cx, cy, dx, dy, bx, by);
+        opposite(a_side, b_side)
     } else {
         false
     }
@@ -258,14 +253,13 @@ pub fn crosses(points: &[i32], a: usize, b: usize, c: usize, d: usize) -> bool
     requires { ⌜ (a < pointCount (now points)) × (b < pointCount (now points)) × (c < pointCount (now points)) × (d < pointCount (now points)) ⌝ }
     ensures { λ r. ⌜ r ≡ crosses (point (now (points .entry)) a) (point (now (points .entry)) b) (point (now (points .entry)) c) (point (now (points .entry)) d) ⌝ }
 {
-    crosses_xy(
-        x_at(points, a),
-        y_at(points, a),
-        x_at(points, b),
-        y_at(points, b),
-        x_at(points, c),
-        y_at(points, c),
-        x_at(points, d),
-        y_at(points, d),
-    )
+    let ax = x_at(points, a);
+    let ay = y_at(points, a);
+    let bx = x_at(points, b);
+    let by = y_at(points, b);
+    let cx = x_at(points, c);
+    let cy = y_at(points, c);
+    let dx = x_at(points, d);
+    let dy = y_at(points, d);
+    crosses_xy(ax, ay, bx, by, cx, cy, dx, dy)
 }

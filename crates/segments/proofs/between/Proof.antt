@@ -14,7 +14,7 @@ use Rattle.segments.proofs.between.Tie as tie
 abbrev ρ : tie.Start → List ℤ
 ρ c = c .args .a ∷ c .args .b ∷ c .args .z ∷ []
 
--- z less an end
+-- This is z less an end.
 abbrev dif : ℕ → Code
 dif i = minus w32 (arg 2) (arg i)
 

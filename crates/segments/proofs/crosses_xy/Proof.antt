@@ -16,7 +16,7 @@ use Rattle.segments.proofs.crosses_xy.Tie as tie
 abbrev ρ : tie.Start → List ℤ
 ρ c = c .args .ax ∷ c .args .ay ∷ c .args .bx ∷ c .args .by ∷ c .args .cx ∷ c .args .cy ∷ c .args .dx ∷ c .args .dy ∷ []
 
--- c and d are on both sides of the line through a and b, and the reverse
+-- These are the answers for c and d against the line through a and b, and for a and b against the line through c and d.
 sides : (c : tie.After-opposite) {v : Bool} → c .opposite .result ≡ v → four (λ a b c d. opposed (orient a b c) (orient a b d)) (ρ (c .before .before .before .before .before .before .before)) ≡ v
 sides c h =
     let s = c .before .before .before .before .before .before .before in

@@ -16,7 +16,7 @@ use Rattle.segments.proofs.in_segment_xy.Tie as tie
 abbrev ρ : tie.Start → List ℤ
 ρ c = c .args .ax ∷ c .args .ay ∷ c .args .bx ∷ c .args .by ∷ c .args .px ∷ c .args .py ∷ []
 
--- each test, of the coordinates as they are
+-- Each call was passed coordinates that went through bits, so its answer is that of the coordinates themselves.
 in-x : (c : tie.After-between) {v : Bool} → c .between .result ≡ v → three (λ a b p. between (a .x) (b .x) (p .x)) (ρ (c .before)) ≡ v
 in-x c h = told3 (ρ (c .before)) (c .before .pre) (λ a b p. between (a .x) (b .x) (p .x)) (c .between .ensures) h
 

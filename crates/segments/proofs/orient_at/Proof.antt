@@ -11,7 +11,7 @@ use Rattle.segments.proofs.orient_at.Tie as tie
 abbrev start : tie.After-y-at3 → tie.Start
 start c = c .before .before .before .before .before .before
 
--- what was read
+-- The coordinates that were read are those of the points.
 abbrev ρ : tie.After-y-at3 → List ℤ
 ρ c = c .before .before .before .before .before .x-at .result ∷ c .before .before .before .before .y-at .result ∷ c .before .before .before .x-at2 .result ∷ c .before .before .y-at2 .result ∷ c .before .x-at3 .result ∷ c .y-at3 .result ∷ []
 

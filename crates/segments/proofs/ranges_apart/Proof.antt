@@ -17,7 +17,7 @@ use Rattle.segments.proofs.ranges_apart.Tie as tie
 abbrev ρ : tie.Start → List ℤ
 ρ c = c .args .a ∷ c .args .b ∷ c .args .c ∷ c .args .d ∷ []
 
--- what each call told
+-- Each call was passed numbers that went through bits, so its answer is that of the numbers themselves.
 from-c-d : (c : tie.After-lower) → c .lower .result ≡ lower (c .before .args .c) (c .before .args .d)
 from-c-d c = lower-told (ρ (c .before)) (c .before .pre) 2 3 (c .lower .ensures)
 
@@ -30,7 +30,7 @@ from-a-b c = let s = c .before .before .before in lower-told (ρ s) (s .pre) 0 1
 to-c-d : (c : tie.After-upper2) → c .upper2 .result ≡ upper (c .before .before .before .before .args .c) (c .before .before .before .before .args .d)
 to-c-d c = let s = c .before .before .before .before in upper-told (ρ s) (s .pre) 2 3 (c .upper2 .ensures)
 
--- the four ends
+-- The four ends are within the limit, so their differences and the product fit.
 abbrev σ : tie.After-upper2 → List ℤ
 σ c = c .before .before .before .lower .result ∷ c .before .before .upper .result ∷ c .before .lower2 .result ∷ c .upper2 .result ∷ []
 

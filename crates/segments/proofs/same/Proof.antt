@@ -1,7 +1,4 @@
-use mathlib.Core.Path.{ap, sym, _∙_}
-use mathlib.Core.Bool.{Bool, _&&_}
 use mir.Syntax.{w32}
-use Rattle.algebra.specs.Tests.{eqZ}
 use Rattle.segments.proofs.Compare.{same-bits, other-bits, eq-bits}
 use Rattle.segments.proofs.same.Statement.{statement}
 use Rattle.segments.proofs.same.Tie as tie

@@ -1,11 +1,10 @@
 use borrow.Author.Needs.{needs}
-use mir.Syntax.{w32}
 use mir.Facts.{toZ-ofZ}
 use Rattle.tables.specs.Data.{point}
 use Rattle.segments.proofs.x_at.Statement.{statement}
 use Rattle.segments.proofs.x_at.Tie as tie
 
--- an element fits its type
+-- An element of the slice fits its type, so it comes back from its bits.
 returns : tie.Need-returns
 unfolding point
 returns c = toZ-ofZ (record { sfits = c .result .given })
