@@ -95,3 +95,15 @@ module _ (f g : ℕ → Bool) where
   unfolding anyTo
   any-same zero h = refl
   any-same (suc n) h = ap₂ (λ (x y : Bool). x || y) (any-same n (λ i l. h i (omega arith))) (h n (omega arith))
+
+-- some pass one of two tests
+pub any-or : (f g : ℕ → Bool) (n : ℕ) → anyTo n (λ i. f i || g i) ≡ (anyTo n f || anyTo n g)
+unfolding anyTo
+any-or f g zero = refl
+any-or f g (suc n) = ap (λ (b : Bool). b || (f n || g n)) (any-or f g n) ∙ mix (anyTo n f) (anyTo n g) (f n) (g n)
+  where
+    mix : (a b c d : Bool) → (a || b || (c || d)) ≡ (a || c || (b || d))
+    mix true b c d = refl
+    mix false true true d = refl
+    mix false true false d = refl
+    mix false false c d = refl

@@ -1,4 +1,4 @@
 pub mod Cleared
 pub mod Last
 mod Index
-mod Search
+pub mod Search

@@ -26,7 +26,6 @@ use Rattle.tables.proofs.Table.{true-T, T-true, not-T-false, same-point, point-
 use Rattle.tables.proofs.Ranks.{Order, less, equal, more, order, before-irrefl, before-not, lowOf, highOf, pair-below}
 use Rattle.segments.specs.Near.{Near}
 use Rattle.segments.specs.Tests.{isPos, isZero}
-use Rattle.segments.proofs.Points.{row, near-row}
 use Rattle.segments.proofs.Compare.{same-bits, other-bits}
 use Rattle.segments.proofs.SignTests.{pos-told, zero-told}
 
@@ -43,7 +42,7 @@ module _ (ps : List ℤ) (near : Near ps) where
   same-read k l = ap₂ ltZ (back-same w32 limit (at k) (near k) tt) (back-same w32 limit (at l) (near l) tt)
 
   fit : (i : ℕ) → SFits w32 (at (2 * i))
-  fit i = fits-small w32 limit (row ps (i ∷ [])) (near-row ps near (i ∷ [])) (arg 0) tt
+  fit i = fits-small w32 limit (at (2 * i) ∷ []) (near (2 * i), tt) (arg 0) tt
 
   module _ (i j : ℕ) where
     pub before-tied : ofZ w32 (at (2 * i)) ≡ ofZ w32 (at (2 * j)) → ltZ (back w32 (at (2 * i + 1))) (back w32 (at (2 * j + 1))) ≡ before (point ps i) (point ps j)

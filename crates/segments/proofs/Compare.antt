@@ -1,5 +1,5 @@
 -- Comparisons of whole numbers as tests of their difference, and equality as the bits tell it. Assumes nothing.
-use mathlib.Core.Path.{_≡_, refl, sym, ap, _∙_, subst}
+use mathlib.Core.Path.{_≡_, refl, sym, ap, ap₂, _∙_, subst}
 use mathlib.Core.Bool.{Bool, true, false, not}
 use Prim.Native.Nat.{ℕ, zero, suc, _+_, _-_, _≤_, _<_}
 use native.Mathlib.Nat.{add-zero}
@@ -12,6 +12,7 @@ use mir.Val.{SFits, ofZ, toZ}
 use mir.Facts.{toZ-ofZ}
 use borrow.Author.Tests.{lt-ltb, le-ltb, lt-leb, le-leb, ltb-true, ltb-false, eqb-true, eqb-false}
 use Rattle.algebra.specs.Tests.{posb, eqZ}
+use Rattle.algebra.proofs.Machine.{back}
 use Rattle.algebra.proofs.Sum.{by-bool}
 use Rattle.plane.proofs.Sign.{eqZ-eq, eqZ-refl}
 
@@ -43,6 +44,10 @@ le-not (pos m) (pos n) = le-not′ m n
 le-not (pos m) (negsuc n) = refl
 le-not (negsuc m) (pos n) = refl
 le-not (negsuc m) (negsuc n) = le-not′ n m
+
+-- the numbers that were compared went through bits
+pub lt-read : (w : Width) (a b : ℤ) → SFits w a → SFits w b → {v : Bool} → ltZ (back w a) (back w b) ≡ v → ltZ a b ≡ v
+lt-read w a b f g e = sym (ap₂ ltZ (toZ-ofZ f) (toZ-ofZ g)) ∙ e
 
 -- ---- equality
 

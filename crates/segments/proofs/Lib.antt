@@ -4,3 +4,5 @@ pub mod SignTests
 pub mod Compare
 mod Ranges
 mod Inside
+mod Ends
+mod Apart

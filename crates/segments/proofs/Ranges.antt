@@ -14,11 +14,11 @@ use Rattle.segments.proofs.Compare.{lt-sub, le-not}
 
 -- ---- a number is zero, or it or its negation is positive
 
-data Side (z : ℤ) : Type 0 where
+pub data Side (z : ℤ) : Type 0 where
   nil : z ≡ pos 0 → Side z
   on : (s : Bool) → Pos (sg s z) → Side z
 
-side : (z : ℤ) → Side z
+pub side : (z : ℤ) → Side z
 side z = go (sign z)
   where
     go : Sign z → Side z

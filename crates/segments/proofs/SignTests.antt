@@ -1,6 +1,6 @@
 -- A test of a number's sign is the test of the number. Assumes nothing.
-use mathlib.Core.Path.{_≡_, refl, sym, ap, _∙_}
-use mathlib.Core.Bool.{Bool}
+use mathlib.Core.Path.{_≡_, refl, sym, ap, ap₂, _∙_}
+use mathlib.Core.Bool.{Bool, true, false, _||_}
 use Prim.Native.Nat.{zero, suc}
 use native.Mathlib.Nat.{zero-lt-suc}
 use lib.Dec.{eqb·suc-zero}
@@ -9,7 +9,8 @@ use borrow.Author.Tests.{lt-ltb}
 use Rattle.algebra.specs.Tests.{posb, eqZ}
 use Rattle.signs.specs.Signs.{signZ}
 use Rattle.signs.specs.declared.Sign.{Sign}
-use Rattle.segments.specs.Tests.{isPos, isNeg, isZero}
+use Rattle.tables.specs.Refusals.{opposed}
+use Rattle.segments.specs.Tests.{isPos, isNeg, isZero, opposite}
 
 pos-test : (z : ℤ) → isPos (signZ z) ≡ posb z
 unfolding signZ
@@ -29,6 +30,16 @@ zero-test (pos zero) = refl
 zero-test (pos (suc n)) = sym (eqb·suc-zero n)
 zero-test (negsuc n) = refl
 
+opposite-test : (y z : ℤ) → opposite (signZ y) (signZ z) ≡ opposed y z
+unfolding signZ
+opposite-test (pos zero) z = refl
+opposite-test (pos (suc n)) z = rw (lt-ltb 0 (suc n) (zero-lt-suc n)) (neg-test z ∙ only (posb (negℤ z)))
+  where
+    only : (b : Bool) → b ≡ b || false
+    only true = refl
+    only false = refl
+opposite-test (negsuc n) z = rw (lt-ltb 0 (suc n) (zero-lt-suc n)) (pos-test z)
+
 -- a call told r of a sign that another call told of z
 module _ (z : ℤ) {s : Sign} (e : s ≡ signZ z) {r : Bool} where
   pub pos-told : r ≡ isPos s → r ≡ posb z
@@ -39,3 +50,6 @@ module _ (z : ℤ) {s : Sign} (e : s ≡ signZ z) {r : Bool} where
 
   pub zero-told : r ≡ isZero s → r ≡ eqZ z (pos 0)
   zero-told h = h ∙ ap isZero e ∙ zero-test z
+
+pub opposite-told : (y z : ℤ) {s t : Sign} → s ≡ signZ y → t ≡ signZ z → {r : Bool} → r ≡ opposite s t → r ≡ opposed y z
+opposite-told y z d e h = h ∙ ap₂ opposite d e ∙ opposite-test y z

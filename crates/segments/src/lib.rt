@@ -20,6 +20,22 @@ ghost use Rattle.segments.specs.Tests.{signOf, isPos, isNeg, isZero, opp
 use signs::Sign;
 use signs::WholeSign;
 
+// ---- numbered points
+
+pub fn x_at(points: &[i32], i: usize) -> i32
+    requires { ⌜ i < pointCount (now points) ⌝ }
+    ensures { λ r. ⌜ r ≡ point (now (points .entry)) i .x ⌝ }
+{
+    points[2 * i]
+}
+
+pub fn y_at(points: &[i32], i: usize) -> i32
+    requires { ⌜ i < pointCount (now points) ⌝ }
+    ensures { λ r. ⌜ r ≡ point (now (points .entry)) i .y ⌝ }
+{
+    points[2 * i + 1]
+}
+
 // ---- signs
 
 // Points within the limit always have a sign, so the second case is never reached with them.
@@ -76,12 +92,12 @@ pub fn orient_at(points: &[i32], a: usize, b: usize, c: usize) -> Sign
     ensures { λ r. ⌜ r ≡ signZ (orient (point (now (points .entry)) a) (point (now (points .entry)) b) (point (now (points .entry)) c)) ⌝ }
 {
     orient_xy(
-        points[2 * a],
-        points[2 * a + 1],
-        points[2 * b],
-        points[2 * b + 1],
-        points[2 * c],
-        points[2 * c + 1],
+        x_at(points, a),
+        y_at(points, a),
+        x_at(points, b),
+        y_at(points, b),
+        x_at(points, c),
+        y_at(points, c),
     )
 }
 
@@ -119,14 +135,14 @@ pub fn circle_at(points: &[i32], a: usize, b: usize, c: usize, d: usize) -> Sign
     ensures { λ r. ⌜ r ≡ signZ (incircle (point (now (points .entry)) a) (point (now (points .entry)) b) (point (now (points .entry)) c) (point (now (points .entry)) d)) ⌝ }
 {
     known(signs::circle_sign(
-        points[2 * a],
-        points[2 * a + 1],
-        points[2 * b],
-        points[2 * b + 1],
-        points[2 * c],
-        points[2 * c + 1],
-        points[2 * d],
-        points[2 * d + 1],
+        x_at(points, a),
+        y_at(points, a),
+        x_at(points, b),
+        y_at(points, b),
+        x_at(points, c),
+        y_at(points, c),
+        x_at(points, d),
+        y_at(points, d),
     ))
 }
 
@@ -171,11 +187,85 @@ pub fn in_segment(points: &[i32], a: usize, b: usize, p: usize) -> bool
     ensures { λ r. ⌜ r ≡ inSegment (point (now (points .entry)) a) (point (now (points .entry)) b) (point (now (points .entry)) p) ⌝ }
 {
     in_segment_xy(
-        points[2 * a],
-        points[2 * a + 1],
-        points[2 * b],
-        points[2 * b + 1],
-        points[2 * p],
-        points[2 * p + 1],
+        x_at(points, a),
+        y_at(points, a),
+        x_at(points, b),
+        y_at(points, b),
+        x_at(points, p),
+        y_at(points, p),
+    )
+}
+
+// ---- segments that cross
+
+fn lower(a: i32, b: i32) -> i32
+    ensures { λ r. ⌜ r ≡ lower a b ⌝ }
+{
+    if a < b { a } else { b }
+}
+
+fn upper(a: i32, b: i32) -> i32
+    ensures { λ r. ⌜ r ≡ upper a b ⌝ }
+{
+    if a < b { b } else { a }
+}
+
+// The ranges have a gap between them. The product needs one test where the two sides of the gap would need two.
+fn ranges_apart(a: i32, b: i32, c: i32, d: i32) -> bool
+    requires { ⌜ Small limit (a ∷ b ∷ c ∷ d ∷ []) ⌝ }
+    ensures { λ r. ⌜ r ≡ apart a b c d ⌝ }
+{
+    (lower(c, d) - upper(a, b)) * (lower(a, b) - upper(c, d)) < 0
+}
+
+fn opposite(s: Sign, t: Sign) -> bool
+    ensures { λ r. ⌜ r ≡ opposite s t ⌝ }
+{
+    match s {
+        Sign::Neg => is_pos(t),
+        Sign::Zero => false,
+        Sign::Pos => is_neg(t),
+    }
+}
+
+// The segments from a to b and from c to d cross properly: the ends of each lie strictly on both sides of the other's line.
+pub fn crosses_xy(ax: i32, ay: i32, bx: i32, by: i32, cx: i32, cy: i32, dx: i32, dy: i32) -> bool
+    requires { ⌜ Small limit (ax ∷ ay ∷ bx ∷ by ∷ cx ∷ cy ∷ dx ∷ dy ∷ []) ⌝ }
+    ensures { λ r. ⌜ r ≡ crosses (at ax ay) (at bx by) (at cx cy) (at dx dy) ⌝ }
+{
+    if ranges_apart(ax, bx, cx, dx) {
+        return false;
+    }
+    if ranges_apart(ay, by, cy, dy) {
+        return false;
+    }
+    if opposite(
+        orient_xy(ax, ay, bx, by, cx, cy),
+        orient_xy(ax, ay, bx, by, dx, dy),
+    ) {
+        opposite(
+            orient_xy(cx, cy, dx, dy, ax, ay),
+            orient_xy(cx, cy, dx, dy, bx, by),
+        )
+    } else {
+        false
+    }
+}
+
+// The same of numbered points.
+pub fn crosses(points: &[i32], a: usize, b: usize, c: usize, d: usize) -> bool
+    requires { ⌜ Near (now points) ⌝ }
+    requires { ⌜ (a < pointCount (now points)) × (b < pointCount (now points)) × (c < pointCount (now points)) × (d < pointCount (now points)) ⌝ }
+    ensures { λ r. ⌜ r ≡ crosses (point (now (points .entry)) a) (point (now (points .entry)) b) (point (now (points .entry)) c) (point (now (points .entry)) d) ⌝ }
+{
+    crosses_xy(
+        x_at(points, a),
+        y_at(points, a),
+        x_at(points, b),
+        y_at(points, b),
+        x_at(points, c),
+        y_at(points, c),
+        x_at(points, d),
+        y_at(points, d),
     )
 }

@@ -1,14 +1,11 @@
 -- Demand 3: what an accepted list means. Every place strictly inside the base and on no edge is in one triangle and no other, each demanded
 -- line is an edge, and no other inner edge has a far corner inside its neighbour's circle. Assumes nothing.
-use mathlib.Core.Path.{_≡_, refl, sym, ap, _∙_, subst}
-use mathlib.Core.Bool.{Bool, true, _&&_, _||_}
+use mathlib.Core.Path.{sym, subst}
 use mathlib.Core.List.{List}
-use mathlib.Core.Logic.{inl}
 use Prim.Native.Nat.{ℕ, _*_, _+_, _<_}
 use lib.Dec.{T}
-use lib.IntN.{ℤ, pos}
+use lib.IntN.{ℤ}
 use Rattle.algebra.specs.Order.{Pos}
-use Rattle.algebra.specs.Tests.{eqZ}
 use Rattle.algebra.proofs.Order.{pos-by}
 use Rattle.algebra.proofs.Sum.{thirds}
 use Rattle.plane.specs.Points.{Pt}
@@ -18,12 +15,12 @@ use Rattle.plane.proofs.Halfedges.{nxt0, nxt1, nxt2}
 use Rattle.plane.proofs.Orient.{orient-cyc}
 use Rattle.plane.proofs.Convex.{convex-a, convex-b}
 use Rattle.plane.proofs.Tiles.{tiles-one}
-use Rattle.plane.proofs.Test.{Reads, reads-pos, reads-and, reads-or}
-use Rattle.tables.specs.Data.{pairCount, point, endA, endB, base}
-use Rattle.tables.specs.Rules.{rank, pairBelow, wins, flips, triples, corner, cornerPoint, edgeIs, reverse, isPair}
-use Rattle.tables.specs.Meaning.{Meaning, Demand3}
-use Rattle.tables.proofs.Table.{true-T, Accepted, accepted, base-turns}
-use Rattle.tables.proofs.Rules.{reads-test, Rule1, Rule7, reads-edge, reads-1, reads-2, reads-3, reads-5, reads-6, reads-7, tiles}
+use Rattle.plane.proofs.Sign.{posb-yes}
+use Rattle.tables.specs.Data.{point}
+use Rattle.tables.specs.Rules.{wins, flips, triples, corner, cornerPoint, reverse, isPair}
+use Rattle.tables.specs.Meaning.{Demand3}
+use Rattle.tables.proofs.Table.{true-T, accepted, base-turns}
+use Rattle.tables.proofs.Rules.{Rule1, Rule7, reads-edge, reads-1, reads-2, reads-3, reads-5, reads-6, reads-7, tiles}
 
 -- Each edge's triangle is counterclockwise, read from that edge on.
 pub edge-turns : (ps : List ℤ) (xs : List ℕ) → Rule1 ps xs → (h : ℕ) → h < 3 * triples xs →
@@ -43,12 +40,12 @@ pub flips-inside : (ps : List ℤ) (a b c d : ℕ) →
     Pos (incircle (point ps a) (point ps b) (point ps c) (point ps d)) → T (flips ps a b c d)
 unfolding flips wins
 flips-inside ps a b c d h k i =
-    reads-and
-    (reads-and
-    (reads-or (reads-pos (incircle (point ps a) (point ps b) (point ps c) (point ps d))) (reads-test (eqZ (incircle (point ps a) (point ps b) (point ps c) (point ps d)) (pos 0) && pairBelow (rank ps c) (rank ps d) (rank ps a) (rank ps b))))
-    (reads-pos (orient (point ps a) (point ps d) (point ps c))))
-    (reads-pos (orient (point ps d) (point ps b) (point ps c)))
-    .shows ((inl i, convex-a (point ps a) (point ps b) (point ps c) (point ps d) h k i), convex-b (point ps a) (point ps b) (point ps c) (point ps d) h k i)
+    rw (
+      posb-yes (incircle (point ps a) (point ps b) (point ps c) (point ps d)) i,
+      posb-yes (orient (point ps a) (point ps d) (point ps c)) (convex-a (point ps a) (point ps b) (point ps c) (point ps d) h k i),
+      posb-yes (orient (point ps d) (point ps b) (point ps c)) (convex-b (point ps a) (point ps b) (point ps c) (point ps d) h k i),
+    )
+    tt
 
 -- An inner edge that is no pair and that step 3 would not flip has no far corner strictly inside the circle.
 not-inside : (ps : List ℤ) (qs xs : List ℕ) → Rule1 ps xs → Rule7 ps qs xs →

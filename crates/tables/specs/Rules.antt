@@ -79,7 +79,7 @@ alongSide ps u v = (onLine ps s0 u && onLine ps s0 v) || (onLine ps s1 u && onLi
 
 -- u and v are the ends of a pair, in either order
 unfoldable pub isPair : List ℕ → ℕ → ℕ → Bool
-isPair qs u v = anyTo (pairCount qs) (λ k. (eqb (endA qs k) u && eqb (endB qs k) v) || (eqb (endA qs k) v && eqb (endB qs k) u))
+isPair qs u v = anyTo (pairCount qs) (λ k. (eqb u (endA qs k) && eqb v (endB qs k)) || (eqb u (endB qs k) && eqb v (endA qs k)))
 
 -- ---- the eight rules
 

@@ -1,53 +1,44 @@
+use borrow.Author.Needs.{needs}
+use mathlib.Core.Path.{_≡_, refl, sym, ap, _∙_}
+use mathlib.Core.Bool.{Bool, true, false, not}
+use Prim.Native.Nat.{ℕ, _+_, _*_, _/_, _-_, _≤_, _<_}
+use native.Mathlib.Omega.{arith}
+use lib.ListN.{length}
+use Rattle.algebra.specs.Tests.{allTo}
+use Rattle.algebra.proofs.Tests.{all-more, all-fails}
+use Rattle.tables.specs.Rules.{triples, leastFirst}
+use Rattle.list_rules.proofs.Once.{not-true, not-false}
 use Rattle.list_rules.proofs.all_least_first.Statement.{statement}
 use Rattle.list_rules.proofs.all_least_first.Tie as tie
-use Rattle.list_rules.proofs.all_least_first.Reads as reads
-use Rattle.list_rules.proofs.all_least_first.Lts as lts
-use Rattle.list_rules.proofs.least_first.Reads as least-first-reads
 
 abbrev Inv-loop : tie.InvT-loop
-Inv-loop list n t₀ t = ?
+Inv-loop list n t₀ t = (t ≤ n) × (allTo t (leastFirst list) ≡ true)
 
 abbrev μ-loop : tie.MeasureT-loop
-μ-loop list n t₀ t = ?
+μ-loop list n t₀ t = n - t
 
--- src/lib.rt:149:5
 loop-holds : tie.Need-loop-holds Inv-loop μ-loop
-loop-holds c = ?
+unfolding allTo
+loop-holds c = (omega arith, refl)
 
--- src/lib.rt:150:13
-least-first-requires : tie.Need-least-first-requires Inv-loop μ-loop
-least-first-requires c κs = ?
-
--- src/lib.rt:151:13
 returns : tie.Need-returns Inv-loop μ-loop
-returns c = ?
+returns c =
+    let s = c .before .before .before .before .before in
+    sym (all-fails (leastFirst (s .args .list .now)) (triples (s .args .list .now)) (c .before .before .before .loop .t) (c .before .before .loop-test .taken) (sym (c .before .least-first .ensures) ∙ not-true (c .before .least-first .result) (c .if1 .taken)))
 
--- src/lib.rt:153:9
-add-t : tie.Need-add-t Inv-loop μ-loop
-add-t c = ?
-
--- src/lib.rt:149:5
-loop-less : tie.Need-loop-less Inv-loop μ-loop
-loop-less c = ?
-
--- src/lib.rt:149:5
 loop-again : tie.Need-loop-again Inv-loop μ-loop
-loop-again c = ?
+loop-again c =
+    let s = c .before .before .before .before .before in
+    let l = c .before .before .before .loop in
+    (omega arith, all-more (leastFirst (s .args .list .now)) (l .t) (l .inv .1) (sym (c .before .least-first .ensures) ∙ not-false (c .before .least-first .result) (c .if1 .left)))
 
--- src/lib.rt:144:1
 returns-2 : tie.Need-returns-2 Inv-loop μ-loop
-returns-2 c = ?
+returns-2 c =
+    let s = c .before .before .before in
+    let l = c .before .loop in
+    let i = l .inv .0 in
+    let e : l .t ≡ triples (s .args .list .now) = (let t = c .loop-test .left in omega arith) in
+    sym (l .inv .1) ∙ ap (λ (k : ℕ). allTo k (leastFirst (s .args .list .now))) e
 
 pub all-least-first-spec : {M : Type 1} → statement M
-all-least-first-spec =
-    tie.close
-    (tie.spec
-    Inv-loop
-    μ-loop
-    loop-holds
-    least-first-requires
-    returns
-    add-t
-    loop-less
-    loop-again
-    returns-2)
+all-least-first-spec = tie.close (tie.spec Inv-loop μ-loop loop-holds (λ c κs. omega arith) returns (λ c. omega arith) (λ c. omega arith) loop-again returns-2)

@@ -1,53 +1,45 @@
+use borrow.Author.Needs.{needs}
+use borrow.Author.Count.{below-more}
+use mathlib.Core.Path.{_≡_, sym, ap, _∙_}
+use mathlib.Core.Bool.{Bool, true, false, not}
+use Prim.Native.Nat.{ℕ, _+_, _-_, _≤_, _<_}
+use native.Mathlib.Nat.{not-suc-le-zero}
+use native.Mathlib.Omega.{arith}
+use lib.Dec.{eqb}
+use lib.ListN.{length}
+use Rattle.plane.specs.Halfedges.{nxt}
+use Rattle.tables.specs.Rules.{corner}
+use Rattle.edges.specs.Index.{lastEdge}
+use Rattle.list_rules.proofs.Once.{once-fails, once-holds, not-false, not-true}
 use Rattle.list_rules.proofs.edges_once.Statement.{statement}
 use Rattle.list_rules.proofs.edges_once.Tie as tie
-use Rattle.list_rules.proofs.edges_once.Reads as reads
-use Rattle.list_rules.proofs.edges_once.Lts as lts
-use Rattle.list_rules.proofs.is_last.Reads as is-last-reads
 
 abbrev Inv-loop : tie.InvT-loop
-Inv-loop list work n h₀ h = ?
+Inv-loop list work n h₀ h = (h ≤ length list) × ((g : ℕ) → g < h → eqb (lastEdge list (corner list g) (corner list (nxt g)) (length list)) (g + 1) ≡ true)
 
 abbrev μ-loop : tie.MeasureT-loop
-μ-loop list work n h₀ h = ?
+μ-loop list work n h₀ h = length list - h
 
--- src/lib.rt:33:5
 loop-holds : tie.Need-loop-holds Inv-loop μ-loop
-loop-holds c = ?
+loop-holds c = (omega arith, λ g l. absurd (not-suc-le-zero l))
 
--- src/lib.rt:34:13
 is-last-requires : tie.Need-is-last-requires Inv-loop μ-loop
-is-last-requires c κs = ?
+is-last-requires c κs = (c .before .before .before .before .pre, c .loop-test .taken)
 
--- src/lib.rt:35:13
 returns : tie.Need-returns Inv-loop μ-loop
-returns c = ?
+returns c =
+    let s = c .before .before .before .before .before .before in
+    once-fails (s .args .list .now) (s .pre .whole) (c .before .before .before .loop .h) (c .before .before .loop-test .taken) (sym (c .before .is-last .ensures) ∙ not-true (c .before .is-last .result) (c .if1 .taken))
 
--- src/lib.rt:37:9
-add-h : tie.Need-add-h Inv-loop μ-loop
-add-h c = ?
-
--- src/lib.rt:33:5
-loop-less : tie.Need-loop-less Inv-loop μ-loop
-loop-less c = ?
-
--- src/lib.rt:33:5
 loop-again : tie.Need-loop-again Inv-loop μ-loop
-loop-again c = ?
+loop-again c =
+    let l = c .before .before .before .loop in
+    (omega arith, below-more _ (l .h) (l .inv .1) (sym (c .before .is-last .ensures) ∙ not-false (c .before .is-last .result) (c .if1 .left)))
 
--- src/lib.rt:28:1
 returns-2 : tie.Need-returns-2 Inv-loop μ-loop
-returns-2 c = ?
+returns-2 c =
+    let s = c .before .before .before .before in
+    once-holds (s .args .list .now) (s .pre .whole) (λ h l. c .before .loop .inv .1 h (let a = c .loop-test .left in omega arith))
 
 pub edges-once-spec : {M : Type 1} → statement M
-edges-once-spec =
-    tie.close
-    (tie.spec
-    Inv-loop
-    μ-loop
-    loop-holds
-    is-last-requires
-    returns
-    add-h
-    loop-less
-    loop-again
-    returns-2)
+edges-once-spec = tie.close (tie.spec Inv-loop μ-loop loop-holds is-last-requires returns (λ c. omega arith) (λ c. omega arith) loop-again returns-2)
