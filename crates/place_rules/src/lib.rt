@@ -146,7 +146,9 @@ pub fn areas_fill(points: &[i32], list: &[u32], cw: bool) -> bool
         );
         t += 1;
     }
-    sum == twice_area(points, 0, second(cw), third(cw))
+    let b = second(cw);
+    let c = third(cw);
+    sum == twice_area(points, 0, b, c)
 }
 
 // ---- step 3

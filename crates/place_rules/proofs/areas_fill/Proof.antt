@@ -68,7 +68,9 @@ module _ (c : tie.After-third Inv-loop μ-loop) where
 
 twice-area-requires-2 : tie.Need-twice-area-requires-2 Inv-loop μ-loop
 twice-area-requires-2 c κs =
-    let p = s′ c .pre in (p .0, (let h = p .1 .0 in omega arith, second-low (base c) (p .1 .0), third-low (base c) (p .1 .0)))
+    let b = second-low (base c) (s′ c .pre .1 .0) in
+    let d = third-low (base c) (s′ c .pre .1 .0) in
+    search needs
 
 returns : tie.Need-returns Inv-loop μ-loop
 returns c =

@@ -28,13 +28,13 @@ decide ps xs l m = simp (le-leb 1 (triples xs) l, le-leb (triples xs) (2 * point
 
 returns : tie.Need-returns Inv-loop μ-loop
 unfolding rule1
-returns c = simp (lt-leb _ _ (c .if1 .taken))
+returns c = simp (lt-leb 1 (triples (c .before .before .args .list .now)) (omega arith))
 
 returns-2 : tie.Need-returns-2 Inv-loop μ-loop
 unfolding rule1
 returns-2 c =
     let s = c .before .before .before .args in
-    simp (le-leb _ _ (c .before .if1 .left), lt-leb (triples (s .list .now)) (2 * pointCount (s .points .now) - 5) (omega arith))
+    simp (le-leb 1 (triples (s .list .now)) (omega arith), lt-leb (triples (s .list .now)) (2 * pointCount (s .points .now) - 5) (omega arith))
 
 loop-holds : tie.Need-loop-holds Inv-loop μ-loop
 unfolding allTo
@@ -45,7 +45,7 @@ returns-3 c =
     let l = c .before .before .before .before .before in
     let e = l .before .before in
     let s = e .before .before .before .args in
-    sym (decide (s .points .now) (s .list .now) (e .before .if1 .left) (e .if2 .left) ∙ all-fails (good (s .points .now) (s .list .now)) _ _ (l .loop-test .taken) (sym (c .before .proper .ensures) ∙ not-true (c .before .proper .result) (c .if3 .taken)))
+    sym (decide (s .points .now) (s .list .now) (omega arith) (omega arith) ∙ all-fails (good (s .points .now) (s .list .now)) _ _ (l .loop-test .taken) (sym (c .before .proper .ensures) ∙ not-true (c .before .proper .result) (c .if3 .taken)))
 
 loop-again : tie.Need-loop-again Inv-loop μ-loop
 loop-again c =
@@ -58,7 +58,7 @@ returns-4 c =
     let s = e .before .before .before .args in
     let i = c .before .loop .inv .0 in
     let whole : triples (s .list .now) ≡ c .before .loop .t = omega arith in
-    sym (decide (s .points .now) (s .list .now) (e .before .if1 .left) (e .if2 .left) ∙ ap (λ (k : ℕ). allTo k (good (s .points .now) (s .list .now))) whole ∙ c .before .loop .inv .1)
+    sym (decide (s .points .now) (s .list .now) (omega arith) (omega arith) ∙ ap (λ (k : ℕ). allTo k (good (s .points .now) (s .list .now))) whole ∙ c .before .loop .inv .1)
 
 pub triples-proper-spec : {M : Type 1} → statement M
 triples-proper-spec =
