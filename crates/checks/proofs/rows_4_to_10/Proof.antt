@@ -1,10 +1,10 @@
 use borrow.Author.Needs.{needs}
-use mathlib.Core.Path.{_≡_, sym, ap, _∙_}
-use mathlib.Core.Bool.{Bool, false}
+use mathlib.Core.Path.{_≡_, sym, _∙_}
+use mathlib.Core.Bool.{false}
 use Rattle.segments.specs.Near.{Near}
 use Rattle.tables.specs.Answers.{lowest}
 use Rattle.tables.specs.Data.{pointCount}
-use Rattle.tables.specs.Refusals.{far, noArea, outside, again}
+use Rattle.tables.specs.Refusals.{far, noArea, outside}
 use Rattle.tables.specs.declared.Lowest.the-variants.{Nowhere}
 use Rattle.tables.proofs.Table.{row-stops, row-passes, row-at-stops, row-at-passes}
 use Rattle.checks.proofs.Cleared.{near-points}
