@@ -1,6 +1,6 @@
-mod Points
+pub mod Points
 mod Answers
-mod SignTests
+pub mod SignTests
 pub mod Compare
 mod Ranges
 mod Inside

@@ -1,6 +1,6 @@
 -- Points that are read from a list and passed to a call: each coordinate is within the limit, so it goes through bits unchanged.
 -- Assumes nothing.
-use mathlib.Core.Path.{_≡_, sym, ap, _∙_}
+use mathlib.Core.Path.{_≡_, sym, ap, ap₂, _∙_}
 use mathlib.Core.Bool.{Bool}
 use mathlib.Core.List.{List, [], _∷_}
 use Prim.Native.Nat.{ℕ, zero, suc, _+_, _*_, _≤_}
@@ -19,7 +19,11 @@ use Rattle.segments.specs.Near.{Near}
 -- the coordinates of numbered points, in a row
 abbrev pub row : List ℤ → List ℕ → List ℤ
 row ps [] = []
-row ps (i ∷ is) = getD ps (2 * i) (pos 0) ∷ getD ps (2 * i + 1) (pos 0) ∷ row ps is
+row ps (i ∷ is) = point ps i .x ∷ point ps i .y ∷ row ps is
+
+-- one point more
+pub also : (ps : List ℤ) (i : ℕ) (is : List ℕ) {x y : ℤ} {ρ : List ℤ} → x ≡ point ps i .x → y ≡ point ps i .y → ρ ≡ row ps is → x ∷ y ∷ ρ ≡ row ps (i ∷ is)
+also ps i is e f h = ap₂ (λ (x : ℤ) (xs : List ℤ). x ∷ xs) e (ap₂ (λ (y : ℤ) (ys : List ℤ). y ∷ ys) f h)
 
 abbrev pub three : {X : Type 0} → (Pt ℤ → Pt ℤ → Pt ℤ → X) → List ℤ → X
 three f ρ = f (at (look ρ 0) (look ρ 1)) (at (look ρ 2) (look ρ 3)) (at (look ρ 4) (look ρ 5))
@@ -59,17 +63,17 @@ module _ (ρ : List ℤ) (h : Small limit ρ) where
 -- what was read of a list, and passed
 module _ (ps : List ℤ) (near : Near ps) where
   pub near-row : (is : List ℕ) → Small limit (row ps is)
+  unfolding point
   near-row [] = tt
   near-row (i ∷ is) = (near (2 * i), (near (2 * i + 1), near-row is))
 
-  pub near-passed : (is : List ℕ) → Small limit (backs w32 (row ps is))
-  near-passed is = backs-small w32 limit (row ps is) (near-row is) tt
+  module _ (is : List ℕ) {ρ : List ℤ} (e : ρ ≡ row ps is) where
+    pub near-passed : Small limit (backs w32 ρ)
+    near-passed = rw e (backs-small w32 limit (row ps is) (near-row is) tt)
 
   -- a call's result, of what it was passed
-  pub read3 : {X : Type 0} (f : Pt ℤ → Pt ℤ → Pt ℤ → X) (a b c : ℕ) {r : X} → r ≡ three f (backs w32 (row ps (a ∷ b ∷ c ∷ []))) → r ≡ f (point ps a) (point ps b) (point ps c)
-  unfolding point
-  read3 f a b c e = e ∙ passed3 (row ps (a ∷ b ∷ c ∷ [])) (near-row (a ∷ b ∷ c ∷ [])) f
+  pub read3 : {X : Type 0} (f : Pt ℤ → Pt ℤ → Pt ℤ → X) (a b c : ℕ) {ρ : List ℤ} → ρ ≡ row ps (a ∷ b ∷ c ∷ []) → {r : X} → r ≡ three f (backs w32 ρ) → r ≡ f (point ps a) (point ps b) (point ps c)
+  read3 f a b c e h = h ∙ ap (λ (xs : List ℤ). three f (backs w32 xs)) e ∙ passed3 (row ps (a ∷ b ∷ c ∷ [])) (near-row (a ∷ b ∷ c ∷ [])) f
 
-  pub read4 : {X : Type 0} (f : Pt ℤ → Pt ℤ → Pt ℤ → Pt ℤ → X) (a b c d : ℕ) {r : X} → r ≡ four f (backs w32 (row ps (a ∷ b ∷ c ∷ d ∷ []))) → r ≡ f (point ps a) (point ps b) (point ps c) (point ps d)
-  unfolding point
-  read4 f a b c d e = e ∙ passed4 (row ps (a ∷ b ∷ c ∷ d ∷ [])) (near-row (a ∷ b ∷ c ∷ d ∷ [])) f
+  pub read4 : {X : Type 0} (f : Pt ℤ → Pt ℤ → Pt ℤ → Pt ℤ → X) (a b c d : ℕ) {ρ : List ℤ} → ρ ≡ row ps (a ∷ b ∷ c ∷ d ∷ []) → {r : X} → r ≡ four f (backs w32 ρ) → r ≡ f (point ps a) (point ps b) (point ps c) (point ps d)
+  read4 f a b c d e h = h ∙ ap (λ (xs : List ℤ). four f (backs w32 xs)) e ∙ passed4 (row ps (a ∷ b ∷ c ∷ d ∷ [])) (near-row (a ∷ b ∷ c ∷ d ∷ [])) f

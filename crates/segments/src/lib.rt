@@ -20,6 +20,22 @@ ghost use Rattle.segments.specs.Tests.{signOf, isPos, isNeg, isZero, opp
 use signs::Sign;
 use signs::WholeSign;
 
+// ---- numbered points
+
+pub fn x_at(points: &[i32], i: usize) -> i32
+    requires { ⌜ i < pointCount (now points) ⌝ }
+    ensures { λ r. ⌜ r ≡ point (now (points .entry)) i .x ⌝ }
+{
+    points[2 * i]
+}
+
+pub fn y_at(points: &[i32], i: usize) -> i32
+    requires { ⌜ i < pointCount (now points) ⌝ }
+    ensures { λ r. ⌜ r ≡ point (now (points .entry)) i .y ⌝ }
+{
+    points[2 * i + 1]
+}
+
 // ---- signs
 
 // Points within the limit always have a sign, so the second case is never reached with them.
@@ -76,12 +92,12 @@ pub fn orient_at(points: &[i32], a: usize, b: usize, c: usize) -> Sign
     ensures { λ r. ⌜ r ≡ signZ (orient (point (now (points .entry)) a) (point (now (points .entry)) b) (point (now (points .entry)) c)) ⌝ }
 {
     orient_xy(
-        points[2 * a],
-        points[2 * a + 1],
-        points[2 * b],
-        points[2 * b + 1],
-        points[2 * c],
-        points[2 * c + 1],
+        x_at(points, a),
+        y_at(points, a),
+        x_at(points, b),
+        y_at(points, b),
+        x_at(points, c),
+        y_at(points, c),
     )
 }
 
@@ -119,14 +135,14 @@ pub fn circle_at(points: &[i32], a: usize, b: usize, c: usize, d: usize) -> Sign
     ensures { λ r. ⌜ r ≡ signZ (incircle (point (now (points .entry)) a) (point (now (points .entry)) b) (point (now (points .entry)) c) (point (now (points .entry)) d)) ⌝ }
 {
     known(signs::circle_sign(
-        points[2 * a],
-        points[2 * a + 1],
-        points[2 * b],
-        points[2 * b + 1],
-        points[2 * c],
-        points[2 * c + 1],
-        points[2 * d],
-        points[2 * d + 1],
+        x_at(points, a),
+        y_at(points, a),
+        x_at(points, b),
+        y_at(points, b),
+        x_at(points, c),
+        y_at(points, c),
+        x_at(points, d),
+        y_at(points, d),
     ))
 }
 
@@ -171,12 +187,12 @@ pub fn in_segment(points: &[i32], a: usize, b: usize, p: usize) -> bool
     ensures { λ r. ⌜ r ≡ inSegment (point (now (points .entry)) a) (point (now (points .entry)) b) (point (now (points .entry)) p) ⌝ }
 {
     in_segment_xy(
-        points[2 * a],
-        points[2 * a + 1],
-        points[2 * b],
-        points[2 * b + 1],
-        points[2 * p],
-        points[2 * p + 1],
+        x_at(points, a),
+        y_at(points, a),
+        x_at(points, b),
+        y_at(points, b),
+        x_at(points, p),
+        y_at(points, p),
     )
 }
 
@@ -243,13 +259,13 @@ pub fn crosses(points: &[i32], a: usize, b: usize, c: usize, d: usize) -> bool
     ensures { λ r. ⌜ r ≡ crosses (point (now (points .entry)) a) (point (now (points .entry)) b) (point (now (points .entry)) c) (point (now (points .entry)) d) ⌝ }
 {
     crosses_xy(
-        points[2 * a],
-        points[2 * a + 1],
-        points[2 * b],
-        points[2 * b + 1],
-        points[2 * c],
-        points[2 * c + 1],
-        points[2 * d],
-        points[2 * d + 1],
+        x_at(points, a),
+        y_at(points, a),
+        x_at(points, b),
+        y_at(points, b),
+        x_at(points, c),
+        y_at(points, c),
+        x_at(points, d),
+        y_at(points, d),
     )
 }

@@ -7,7 +7,7 @@ use Rattle.segments.proofs.orient_xy.Tie as tie
 returns : tie.Need-returns
 returns c =
     let s = c .before .before in
-    c .known .ensures ∙ orient-told _ _ _ _ _ _ (s .pre) (c .before .orient-sign .result) (c .before .orient-sign .ensures)
+    c .known .ensures ∙ orient-told _ _ _ _ _ _ (s .pre) (c .before .orient-sign .ensures)
 
 pub orient-xy-spec : {M : Type 1} → statement M
 orient-xy-spec = tie.close (tie.spec (λ c κs. search needs) (λ c κs. search needs) returns)
