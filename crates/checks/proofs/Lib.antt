@@ -1,2 +1,2 @@
+pub mod Above
 pub mod Base
-pub mod Cleared

@@ -12,6 +12,11 @@ use tables::Checked;
 use tables::Lowest;
 use tables::Refusal;
 
+// Row 2's limits.
+const MOST_POINTS: usize = 4096;
+
+const MOST_PAIRS: usize = 12288;
+
 // ---- row 4
 
 fn is_far(points: &[i32], i: usize) -> bool
@@ -21,6 +26,7 @@ fn is_far(points: &[i32], i: usize) -> bool
     !signs::within(points[2 * i], points[2 * i + 1])
 }
 
+// The lowest point with a coordinate beyond the limit.
 pub fn far_point(points: &[i32]) -> Lowest
     ensures { λ r. ⌜ r ≡ lowest (pointCount (now (points .entry))) (far (now (points .entry))) ⌝ }
 {
@@ -35,6 +41,7 @@ pub fn far_point(points: &[i32]) -> Lowest
 
 // ---- row 5, and how the base turns
 
+// Points 0, 1 and 2 lie on a line.
 pub fn no_area(points: &[i32]) -> bool
     requires { ⌜ Near (now points) ⌝ }
     requires { ⌜ 3 ≤ pointCount (now points) ⌝ }
@@ -43,6 +50,7 @@ pub fn no_area(points: &[i32]) -> bool
     segments::is_flat(points, 0, 1, 2)
 }
 
+// Points 0, 1 and 2 are clockwise, so the base reads 0, 2, 1.
 pub fn is_clockwise(points: &[i32]) -> bool
     requires { ⌜ Near (now points) ⌝ }
     requires { ⌜ 3 ≤ pointCount (now points) ⌝ }
@@ -51,8 +59,9 @@ pub fn is_clockwise(points: &[i32]) -> bool
     segments::is_right(points, 0, 1, 2)
 }
 
-// ---- row 6. The base reads 0, b, c
+// ---- row 6
 
+// The base reads 0, b, c. Which numbers b and c are is asked once, before the search.
 fn is_outside(points: &[i32], b: usize, c: usize, i: usize) -> bool
     requires { ⌜ Near (now points) ⌝ }
     requires { ⌜ (b < pointCount (now points)) × (c < pointCount (now points)) × (i < pointCount (now points)) ⌝ }
@@ -81,6 +90,7 @@ fn outside_base(points: &[i32], b: usize, c: usize) -> Lowest
     Lowest::Nowhere
 }
 
+// The lowest point outside the closed base.
 pub fn outside_point(points: &[i32]) -> Lowest
     requires { ⌜ Near (now points) ⌝ }
     requires { ⌜ 3 ≤ pointCount (now points) ⌝ }
@@ -118,6 +128,7 @@ fn seen_before(points: &[i32], i: usize) -> bool
     false
 }
 
+// The lowest point at the place of one before it.
 pub fn equal_point(points: &[i32]) -> Lowest
     ensures { λ r. ⌜ r ≡ lowest (pointCount (now (points .entry))) (again (now (points .entry))) ⌝ }
 {
@@ -130,7 +141,7 @@ pub fn equal_point(points: &[i32]) -> Lowest
     Lowest::Nowhere
 }
 
-// ---- the table's order
+// ---- the table's order. A row is asked only where those above it pass, which is what it may take for granted
 
 fn rows_8_to_10(points: &[i32], pairs: &[u32]) -> Checked
     requires { ⌜ Near (now points) ⌝ }
@@ -191,10 +202,10 @@ pub fn rows(points: &[i32], pairs: &[u32], odd: bool, short: bool) -> Checked
     if points.len() / 2 < 3 {
         return Checked::Refused(Refusal::Counts);
     }
-    if 4096 < points.len() / 2 {
+    if MOST_POINTS < points.len() / 2 {
         return Checked::Refused(Refusal::Counts);
     }
-    if 12288 < pairs.len() / 2 {
+    if MOST_PAIRS < pairs.len() / 2 {
         return Checked::Refused(Refusal::Counts);
     }
     if short {

@@ -29,6 +29,7 @@ fn is_bad(pairs: &[u32], n: usize, k: usize) -> bool
     a == b
 }
 
+// The lowest pair with an end that is no point's number, or with equal ends; n is the number of points.
 pub fn bad_pair(pairs: &[u32], n: usize) -> Lowest
     ensures { λ r. ⌜ r ≡ lowest (pairCount (now (pairs .entry))) (badPair n (now (pairs .entry))) ⌝ }
 {
@@ -60,6 +61,7 @@ fn is_blocked(points: &[i32], pairs: &[u32], k: usize) -> bool
     false
 }
 
+// The lowest pair with a point strictly inside its segment.
 pub fn blocked_pair(points: &[i32], pairs: &[u32]) -> Lowest
     requires { ⌜ Near (now points) ⌝ }
     requires { ⌜ Ends (now points) (now pairs) ⌝ }
@@ -94,6 +96,7 @@ fn is_crossing(points: &[i32], pairs: &[u32], k: usize) -> bool
     false
 }
 
+// The lowest pair that properly crosses one before it.
 pub fn crossing_pair(points: &[i32], pairs: &[u32]) -> Lowest
     requires { ⌜ Near (now points) ⌝ }
     requires { ⌜ Ends (now points) (now pairs) ⌝ }

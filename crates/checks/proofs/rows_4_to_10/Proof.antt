@@ -1,13 +1,13 @@
 use borrow.Author.Needs.{needs}
-use mathlib.Core.Path.{_≡_, sym, ap, _∙_}
-use mathlib.Core.Bool.{Bool, false}
+use mathlib.Core.Path.{_≡_, sym, _∙_}
+use mathlib.Core.Bool.{false}
 use Rattle.segments.specs.Near.{Near}
 use Rattle.tables.specs.Answers.{lowest}
 use Rattle.tables.specs.Data.{pointCount}
-use Rattle.tables.specs.Refusals.{far, noArea, outside, again}
+use Rattle.tables.specs.Refusals.{far, noArea, outside}
 use Rattle.tables.specs.declared.Lowest.the-variants.{Nowhere}
 use Rattle.tables.proofs.Table.{row-stops, row-passes, row-at-stops, row-at-passes}
-use Rattle.checks.proofs.Cleared.{near-points}
+use Rattle.checks.proofs.Above.{near-points}
 use Rattle.checks.proofs.rows_4_to_10.Statement.{statement}
 use Rattle.checks.proofs.rows_4_to_10.Tie as tie
 
@@ -19,10 +19,10 @@ module _ (c : tie.After-enum-told) where
   abbrev s : tie.Start
   s = c .before .before .before .before
 
-  pub none-4 : lowest (pointCount (s .args .points .now)) (far (s .args .points .now)) ≡ Nowhere
+  none-4 : lowest (pointCount (s .args .points .now)) (far (s .args .points .now)) ≡ Nowhere
   none-4 = sym (c .before .before .far-point .ensures) ∙ c .enum-told .given .1
 
-  pub near : Near (s .args .points .now)
+  near : Near (s .args .points .now)
   near = near-points (s .args .points .now) (s .pre .0 .0) none-4
 
 returns-2 : tie.Need-returns-2
@@ -38,8 +38,8 @@ returns-3 c =
     sym (row-at-passes 4 _ (none-4 (p .before .before .before)) ∙ row-passes 5 _ (none-5 (p .before)) ∙ row-at-stops 6 _ (sym (p .outside-point .ensures) ∙ c .before .outside .given .1))
 
 -- row 6 is passed
-none-6 : (c : tie.After-enum-told2) →
-    lowest (pointCount (s (c .before .before .before .before .before) .args .points .now)) (outside (s (c .before .before .before .before .before) .args .points .now)) ≡ Nowhere
+none-6 : (c : tie.After-enum-told2) → let s = c .before .before .before .before .before .before .before .before .before in
+    lowest (pointCount (s .args .points .now)) (outside (s .args .points .now)) ≡ Nowhere
 none-6 c = sym (c .before .before .outside-point .ensures) ∙ c .enum-told2 .given .1
 
 returns-4 : tie.Need-returns-4

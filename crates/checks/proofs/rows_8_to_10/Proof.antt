@@ -6,7 +6,7 @@ use Rattle.tables.specs.Refusals.{badPair, blocked}
 use Rattle.tables.specs.declared.Lowest.the-variants.{Nowhere}
 use Rattle.tables.proofs.Table.{row-at-stops, row-at-passes}
 use Rattle.pair_checks.specs.Ends.{Ends}
-use Rattle.checks.proofs.Cleared.{ends-points}
+use Rattle.checks.proofs.Above.{ends-points}
 use Rattle.checks.proofs.rows_8_to_10.Statement.{statement}
 use Rattle.checks.proofs.rows_8_to_10.Tie as tie
 

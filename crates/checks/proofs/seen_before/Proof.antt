@@ -1,5 +1,4 @@
-use mathlib.Core.Path.{_≡_}
-use Prim.Native.Nat.{ℕ, _-_}
+use Prim.Native.Nat.{_-_}
 use native.Mathlib.Omega.{arith}
 use Rattle.tables.specs.Data.{point, same}
 use Rattle.pair_checks.proofs.Lowest.{Searched, start, more, found-any, ended-any}

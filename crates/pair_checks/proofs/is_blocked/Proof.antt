@@ -1,5 +1,4 @@
-use mathlib.Core.Path.{_≡_}
-use Prim.Native.Nat.{ℕ, _+_, _*_, _-_, _<_}
+use Prim.Native.Nat.{_+_, _*_, _-_}
 use native.Mathlib.Omega.{arith}
 use Rattle.tables.specs.Data.{point}
 use Rattle.tables.specs.Refusals.{inSegment}
@@ -22,9 +21,9 @@ cast-b c = omega (arith, c .shared-slice-known3 .given (2 * c .before .before .b
 in-segment-requires : tie.Need-in-segment-requires Inv-loop μ-loop
 in-segment-requires c κs =
     let s = c .before .before .before .before .before in
-    let k = s .args .k in
-    let l = c .loop-test .taken in
-    (s .pre .0, (s .pre .1 .0 (2 * k) (omega arith), s .pre .1 .0 (2 * k + 1) (omega arith), omega arith))
+    let a = s .pre .1 .0 (2 * s .args .k) (omega arith) in
+    let b = s .pre .1 .0 (2 * s .args .k + 1) (omega arith) in
+    (s .pre .0, omega arith)
 
 returns : tie.Need-returns Inv-loop μ-loop
 returns c =

@@ -1,5 +1,4 @@
-use mathlib.Core.Path.{_≡_}
-use Prim.Native.Nat.{ℕ, _+_, _*_, _-_, _<_}
+use Prim.Native.Nat.{_+_, _*_, _-_}
 use native.Mathlib.Omega.{arith}
 use Rattle.tables.specs.Data.{point, endA, endB}
 use Rattle.tables.specs.Refusals.{crosses}
@@ -30,10 +29,12 @@ crosses-requires : tie.Need-crosses-requires Inv-loop μ-loop
 crosses-requires c κs =
     let l = c .before .before .before in
     let s = l .before .before .before .before in
-    let k = s .args .k in
-    let j = l .loop .j in
-    let e = s .pre .1 .0 in
-    (s .pre .0, (e (2 * j) (omega arith), e (2 * j + 1) (omega arith), e (2 * k) (omega arith), e (2 * k + 1) (omega arith)))
+    let ends = s .pre .1 .0 in
+    let a = ends (2 * l .loop .j) (omega arith) in
+    let b = ends (2 * l .loop .j + 1) (omega arith) in
+    let c = ends (2 * s .args .k) (omega arith) in
+    let d = ends (2 * s .args .k + 1) (omega arith) in
+    (s .pre .0, omega arith)
 
 returns : tie.Need-returns Inv-loop μ-loop
 returns c =
