@@ -1,4 +1,5 @@
 // Runs the cases of document 01 that are marked to be run, and prints a line for each.
+mod checker_cases;
 mod print;
 mod signs_cases;
 
@@ -8,4 +9,5 @@ fn main() {
     signs_cases::points();
     signs_cases::parts();
     signs_cases::filter();
+    checker_cases::all();
 }

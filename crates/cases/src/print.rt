@@ -14,6 +14,10 @@ pub fn unsigned(n: u64) {
     io::print_decimal(STDOUT_FILENO, n);
 }
 
+pub fn count(n: usize) {
+    unsigned(n as u64);
+}
+
 pub fn integer(n: i64) {
     if n < 0 {
         text(b"-");

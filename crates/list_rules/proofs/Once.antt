@@ -73,6 +73,13 @@ module _ (xs : List ℕ) (w : length xs % 3 ≡ 0) where
       let a = all-at (alone h) (3 * triples xs) g (all-at (λ h. allTo (3 * triples xs) (alone h)) (3 * triples xs) h r (omega arith)) (omega arith) in
       eqb-true g h (sym (ap (λ (b : Bool). not b || eqb g h) t) ∙ a)
 
+  -- two edges from u to v are one
+  pub unique-edge : rule2 xs ≡ true → (u v h g : ℕ) → h < length xs → g < length xs → edgeIs xs h u v ≡ true → edgeIs xs g u v ≡ true → g ≡ h
+  unique-edge r u v h g l m t s =
+      let a = eqb-true (corner xs h) u (and-fst (eqb (corner xs h) u) (eqb (corner xs (nxt h)) v) t) in
+      let b = eqb-true (corner xs (nxt h)) v (and-snd (eqb (corner xs h) u) (eqb (corner xs (nxt h)) v) t) in
+      unique r h g l m (ap₂ (λ (x y : ℕ). edgeIs xs g x y) a b ∙ s)
+
   -- the last edge with the ends of h is h
   pub is-own : rule2 xs ≡ true → (h : ℕ) → h < length xs → lastEdge xs (corner xs h) (corner xs (nxt h)) (length xs) ≡ suc h
   is-own r h l =

@@ -6,31 +6,23 @@ use Prim.Native.Nat.{ℕ, zero, suc, _+_, _*_, _%_, _≤_, _<_}
 use native.Mathlib.Decide.{ℕ-discrete}
 use native.Mathlib.Numerals.{add-one}
 use native.Mathlib.Omega.{arith}
-use borrow.Author.Tests.{eqb-true}
 use lib.Dec.{eqb}
 use lib.ListN.{length, getD, set, length-set}
 use lib.Seq.{getD-set-same, getD-set-other}
 use Rattle.algebra.specs.Tests.{anyTo}
-use Rattle.algebra.proofs.Tests.{by-test, and-fst, and-snd}
+use Rattle.algebra.proofs.Tests.{by-test}
 use Rattle.plane.specs.Halfedges.{nxt}
 use Rattle.tables.specs.Data.{pairCount, endA, endB}
 use Rattle.tables.specs.Rules.{corner, edgeIs, isPair, rule2}
 use Rattle.edges.specs.Index.{lastEdge}
 use Rattle.edges.proofs.Last.{last-is, last-le, last-none}
 use Rattle.list_rules.specs.Listed.{Listed, Room, Blank, Painted, Marked, markOf}
-use Rattle.list_rules.proofs.Once.{unique}
+use Rattle.list_rules.proofs.Once.{unique-edge}
 
 -- ---- one edge
 module _ (n : ℕ) (xs w : List ℕ) (ls : Listed n xs w) (room : Room n xs w) (once : rule2 xs ≡ true) (u v : ℕ) where
   abbrev f : ℕ → Bool
   f h = edgeIs xs h u v
-
-  -- two edges from u to v are one
-  same : (h g : ℕ) → h < length xs → g < length xs → f h ≡ true → f g ≡ true → g ≡ h
-  same h g l m t s =
-      let a = eqb-true (corner xs h) u (and-fst (eqb (corner xs h) u) (eqb (corner xs (nxt h)) v) t) in
-      let b = eqb-true (corner xs (nxt h)) v (and-snd (eqb (corner xs h) u) (eqb (corner xs (nxt h)) v) t) in
-      unique xs (ls .whole) once h g l m (ap₂ (λ (x y : ℕ). edgeIs xs g x y) a b ∙ s)
 
   module _ (h : ℕ) (e : lastEdge xs u v (length xs) ≡ suc h) where
     low : h < length xs
@@ -46,7 +38,7 @@ module _ (n : ℕ) (xs w : List ℕ) (ls : Listed n xs w) (room : Room n xs w) (
     marks g l (yes q) =
         ap (λ (x : ℕ). markOf n (set w (7 * n + h) 1) x) q ∙ getD-set-same w (7 * n + h) 1 0 spot-low ∙ sym (ap (λ (b : Bool). cond b 1 (markOf n w g)) (ap f q ∙ passes))
     marks g l (no q) =
-        getD-set-other w (7 * n + h) (7 * n + g) 1 0 (λ z. q (omega arith)) ∙ sym (ap (λ (b : Bool). cond b 1 (markOf n w g)) (by-test (f g) (λ t. absurd (q (same h g low l passes t))) (λ t. t)))
+        getD-set-other w (7 * n + h) (7 * n + g) 1 0 (λ z. q (omega arith)) ∙ sym (ap (λ (b : Bool). cond b 1 (markOf n w g)) (by-test (f g) (λ t. absurd (q (unique-edge xs (ls .whole) once u v h g low l passes t))) (λ t. t)))
 
     pub paints : Painted n xs f w (set w (7 * n + h) 1)
     paints = record {

@@ -1,8 +1,8 @@
 pub mod Points
+pub mod SignTests
 pub mod Compare
 pub mod Ranges
 pub mod Apart
 mod Answers
-mod SignTests
 mod Inside
 mod Ends

@@ -103,7 +103,8 @@ fn in_range(x: i32) -> bool
     x <= LIMIT
 }
 
-fn within(x: i32, y: i32) -> bool
+// No coordinate of the point is beyond the limit.
+pub fn within(x: i32, y: i32) -> bool
     ensures { λ r. ⌜ r ≡ within limit (at x y) ⌝ }
 {
     if in_range(x) { in_range(y) } else { false }

@@ -1,5 +1,5 @@
 -- Ranks compare as coordinates do. So the order of two rank pairs, by which step 3 breaks a tie, is a test of four points alone, and no
--- rank has to be computed. None of these laws asks that the points differ but those that say so. Assumes nothing.
+-- rank has to be computed. Equal points have equal ranks, so only the law that says so asks that the points differ. Assumes nothing.
 use mathlib.Core.Path.{_≡_, sym, ap, _∙_, subst}
 use mathlib.Core.Bool.{Bool, true, false, cond, _&&_, _||_}
 use mathlib.Core.List.{List}
@@ -29,13 +29,13 @@ bit-le true false h = absurd (h tt)
 bit-le false true h = omega arith
 bit-le false false h = omega arith
 
--- More pass a weaker test.
+-- At least as many numbers pass a weaker test.
 pub count-le : (n : ℕ) (f g : ℕ → Bool) → ((i : ℕ) → i < n → T (f i) → T (g i)) → countTo n f ≤ countTo n g
 unfolding countTo
 count-le zero f g h = omega arith
 count-le (suc n) f g h = omega (arith, count-le n f g (λ i l. h i (omega arith)), bit-le (f n) (g n) (h n (omega arith)))
 
--- And strictly more, where one number fails the one test and passes the other.
+-- Strictly more pass it where one number fails the stronger test and passes the weaker one.
 pub count-lt : (n : ℕ) (f g : ℕ → Bool) → ((i : ℕ) → i < n → T (f i) → T (g i)) →
     (k : ℕ) → k < n → f k ≡ false → g k ≡ true → countTo n f < countTo n g
 unfolding countTo
@@ -62,7 +62,7 @@ lt-le (negsuc a) (negsuc b) t = le→leb b a (omega (arith, ltb→lt b a t))
 <ℤ-trans : {a b c : ℤ} → a <ℤ b → b <ℤ c → a <ℤ c
 <ℤ-trans {a} {b} {c} h k = <ℤ-≤ℤ-trans h (record { le = lt-le b c (k .lt) })
 
--- one of three holds of two whole numbers
+-- One of three cases holds of two whole numbers.
 abbrev Three : ℤ → ℤ → Type 0
 Three a b = (a <ℤ b) ⊎ ((a ≡ b) ⊎ (b <ℤ a))
 
@@ -82,7 +82,7 @@ three (negsuc a) (negsuc b) = go (decLt a b) (decLt b a)
     go (no l) (yes d) = inl (ltZ-yes (lt→ltb b a d))
     go (no l) (no d) = let e : a ≡ b = omega arith in inr (inl (ap negsuc e))
 
--- the statement of the test `before`
+-- This is what the test `before` says.
 abbrev pub Before : Pt ℤ → Pt ℤ → Type 0
 Before p q = (p .x <ℤ q .x) ⊎ ((p .x ≡ q .x) × (p .y <ℤ q .y))
 
@@ -112,7 +112,7 @@ before-trans p q r s t = reads-before p r .shows (go (reads-before p q .says s) 
 pub before-not : (p q : Pt ℤ) → T (before p q) → before q p ≡ false
 before-not p q t = not-T-false (before q p) (λ s. before-irrefl p (before-trans p q p t s))
 
--- one of three holds of two points
+-- One of three cases holds of two points.
 pub data Order (p q : Pt ℤ) : Type 0 where
   less : T (before p q) → Order p q
   equal : p ≡ q → Order p q
@@ -133,13 +133,13 @@ order p q = go (three (p .x) (q .x)) (three (p .y) (q .y))
 
 -- ---- ranks
 
--- the count of the points before p
+-- A rank depends on the point alone: it is the count of the points before it.
 rank-of : (ps : List ℤ) (i j : ℕ) → point ps i ≡ point ps j → rank ps i ≡ rank ps j
 unfolding rank
 rank-of ps i j e = ap (λ (p : Pt ℤ). countTo (pointCount ps) (λ k. before (point ps k) p)) e
 
 module _ (ps : List ℤ) where
-  -- The count is strictly monotone.
+  -- The count is strictly monotone: what is before i is before j, and i is before j and not before itself.
   pub rank-lt : (i j : ℕ) → i < pointCount ps → before (point ps i) (point ps j) ≡ true → rank ps i < rank ps j
   unfolding rank
   rank-lt i j l e =
@@ -192,19 +192,19 @@ module _ (ps : List ℤ) where
 
 -- ---- the order of rank pairs, by points alone
 
--- of two points, the one that is before the other, and the other
+-- Of two points these are the one that is before the other, and the other.
 abbrev pub lowOf : Pt ℤ → Pt ℤ → Pt ℤ
 lowOf p q = cond (before p q) p q
 
 abbrev pub highOf : Pt ℤ → Pt ℤ → Pt ℤ
 highOf p q = cond (before p q) q p
 
--- the pair of c, d is below that of a, b: the lows are compared, and where they are one point, the highs
+-- The pair of c, d is below that of a, b: the low points are compared, and where they are one point, the high points.
 abbrev pub pointPairBelow : Pt ℤ → Pt ℤ → Pt ℤ → Pt ℤ → Bool
 pointPairBelow c d a b = before (lowOf c d) (lowOf a b) || (same (lowOf c d) (lowOf a b) && before (highOf c d) (highOf a b))
 
 module _ (ps : List ℤ) where
-  -- The two numbers, the one with the lower rank first.
+  -- These are the two numbers, the one with the lower rank first.
   record Sorted (c d : ℕ) : Type 0 where
     low : ℕ
     high : ℕ

@@ -16,7 +16,9 @@ use Rattle.plane.specs.Halfedges.{nxt}
 use Rattle.plane.specs.Tiles.{OnSide, Reverse, Tiles}
 use Rattle.plane.proofs.Test.{Reads, reads-as, reads-and, reads-or, reads-if, reads-not, reads-all, reads-any, reads-eq, reads-eqZ, reads-pos}
 use Rattle.tables.specs.Data.{pointCount, pairCount, point, endA, endB, base}
-use Rattle.tables.specs.Rules.{flips, triples, corner, tripleArea, edgeIs, reverse, onLine, alongSide, isPair, properTriple, rule1, rule2, rule3, rule4, rule5, rule6, rule7, risesTo, rule8}
+use Rattle.tables.specs.Rules.{flips, triples, corner, tripleArea, edgeIs, reverse, onLine, alongSide, isPair, properTriple, risesTo}
+use Rattle.tables.specs.Rules.{rule1, rule2, rule3, rule4, rule5, rule6, rule7, rule8}
+use Rattle.tables.proofs.Table.{reads-test}
 
 pub reads-le : (m n : ℕ) → Reads (leb m n) (m ≤ n)
 reads-le m n = record { says = leb→le m n; shows = le→leb m n }
@@ -24,13 +26,9 @@ reads-le m n = record { says = leb→le m n; shows = le→leb m n }
 pub reads-lt : (m n : ℕ) → Reads (ltb m n) (m < n)
 reads-lt m n = record { says = ltb→lt m n; shows = lt→ltb m n }
 
--- a test by itself
-pub reads-test : (b : Bool) → Reads b (T b)
-reads-test b = record { says = λ t. t; shows = λ t. t }
-
 -- ---- rule 1
 
--- a triple of distinct point numbers below n, strictly counterclockwise
+-- The triple has distinct point numbers below n, and is strictly counterclockwise.
 pub record Proper (ps : List ℤ) (a b c : ℕ) : Type 0 where
   pub a-below : a < pointCount ps
   pub b-below : b < pointCount ps
@@ -153,7 +151,7 @@ reads-6 qs xs =
     reads-all (pairCount qs)
     (λ k. reads-any (3 * triples xs) (λ h. reads-test (edgeIs xs h (endA qs k) (endB qs k) || edgeIs xs h (endB qs k) (endA qs k))))
 
--- where a holds and b does not, c does not
+-- Where a holds and b does not, c does not.
 reads-unless : (a b c : Bool) → Reads (not a || b || not c) (T a → ¬ T b → ¬ T c)
 reads-unless true true c = record { says = λ t x f. absurd (f tt); shows = λ f. tt }
 reads-unless true false c = reads-as (reads-not (reads-test c)) (λ g x f. g) (λ g. g tt (λ t. t))
@@ -174,7 +172,7 @@ reads-7 ps qs xs =
 
 -- ---- rule 8
 
--- the triple a, b, c comes before d, e, f: by first, second, third number
+-- Each triple's least number is first, and each triple comes before the next one by first, second, third number.
 pub record Rule8 (xs : List ℕ) : Type 0 where
   pub first : (t : ℕ) → t < triples xs → (corner xs (3 * t) < corner xs (3 * t + 1)) × (corner xs (3 * t) < corner xs (3 * t + 2))
   pub rise : (t : ℕ) → t < triples xs - 1 → T (risesTo xs t)

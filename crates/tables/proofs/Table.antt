@@ -1,5 +1,5 @@
--- This file has what the answers of the paper's tables say: the laws of the lowest offending index, what each test says where the answer
--- is yes, and what is known of points and pairs that no row refuses. Assumes nothing.
+-- This file has what the answers say. It has the laws of the lowest offending index and of the table's order, what each row's test says
+-- where the row does not refuse, what is known of points and pairs that no row refuses, and what an accepted list keeps. Assumes nothing.
 use mathlib.Core.Path.{_≡_, refl, sym, ap, _∙_, subst}
 use mathlib.Core.Bool.{Bool, true, false, cond, not, _&&_, _||_}
 use mathlib.Core.List.{List, [], _∷_}
@@ -19,7 +19,7 @@ use Rattle.plane.specs.Determinants.{orient}
 use Rattle.plane.specs.Base.{Side, s0, s1, s2, next, baseArea, InBase}
 use Rattle.plane.proofs.Orient.{orient-cyc, orient-swap}
 use Rattle.plane.proofs.Sign.{posb-yes, posb-no, not-posb}
-use Rattle.plane.proofs.Test.{reads-eqZ}
+use Rattle.plane.proofs.Test.{Reads, reads-any, reads-eqZ}
 use Rattle.signs.specs.Answers.{limit, within}
 use Rattle.tables.specs.declared.Lowest.{Lowest}
 use Rattle.tables.specs.declared.Lowest.the-variants.{At, Nowhere}
@@ -53,14 +53,12 @@ pub not-T-false : (b : Bool) → ¬ T b → b ≡ false
 not-T-false true f = absurd (f tt)
 not-T-false false f = refl
 
+-- A test reads as itself.
+pub reads-test : (b : Bool) → Reads b (T b)
+reads-test b = record { says = λ t. t; shows = λ t. t }
+
 pub any-false : (n : ℕ) (f : ℕ → Bool) → anyTo n f ≡ false → (i : ℕ) → i < n → f i ≡ false
-unfolding anyTo
-any-false zero f e i l = absurd (not-suc-le-zero l)
-any-false (suc n) f e i l = go (any-false n f (or-false (anyTo n f) (f n) e .0)) (or-false (anyTo n f) (f n) e .1) (decLt i n)
-  where
-    go : ((i : ℕ) → i < n → f i ≡ false) → f n ≡ false → Dec (i < n) → f i ≡ false
-    go ih h (yes k) = ih i k
-    go ih h (no k) = let q : n ≡ i = omega arith in subst (λ (j : ℕ). f j ≡ false) q h
+any-false n f e i l = not-T-false (f i) (λ t. false-not e (reads-any n (λ i. reads-test (f i)) .shows (i, l, t)))
 
 -- ---- the lowest offending index: it is nowhere exactly where nothing below n offends, and it is at i exactly where i is below n and
 -- offends, and nothing below i does
@@ -100,7 +98,7 @@ module _ (f : ℕ → Bool) where
       step : lowest n f ≡ Nowhere → f n ≡ false → orElse (lowest n f) (cond (f n) (At n) Nowhere) ≡ Nowhere
       step e q = rw (e, q)
 
-  -- It is below n, offends, and is the lowest that does.
+  -- The index is below n, offends, and is the lowest that does.
   pub record LowestAt (n i : ℕ) : Type 0 where
     pub below : i < n
     pub offends : f i ≡ true
@@ -241,11 +239,11 @@ rule-passes k after e = rw e
 
 -- ---- the table's order: the answer is the first row that offends
 
--- a test with no place, as a row with one: the place is 0
+-- A test with no place is a row whose place is 0.
 abbrev pub once : Bool → Lowest
 once offends = cond offends (At 0) Nowhere
 
--- rows 1 to 10, in the table's order
+-- These are rows 1 to 10 in the table's order.
 abbrev pub inOrder : Bool → Bool → List ℤ → List ℕ → List Lowest
 inOrder odd short ps qs =
     once (not (eqb (length ps % 2) 0) || not (eqb (length qs % 2) 0) || odd)
@@ -260,7 +258,7 @@ inOrder odd short ps qs =
     ∷ lowest (pairCount qs) (crossing ps qs)
     ∷ []
 
--- the first of them that offends, where they are numbered from k on
+-- This is the answer of the first of them that offends, where they are numbered from k on.
 unfoldable pub firstOf : ℕ → List Lowest → Paper
 firstOf k [] = good
 firstOf k (l ∷ ls) = rowAt k l (firstOf (suc k) ls)
@@ -313,9 +311,9 @@ pub first-refused : (odd short : Bool) (ps : List ℤ) (qs : List ℕ) (j i : �
     rows odd short ps qs ≡ refuses (1 + j) i
 first-refused odd short ps qs j i r = in-order odd short ps qs ∙ row-first 1 (inOrder odd short ps qs) j i r
 
--- ---- what is known of points and pairs that no row refuses
+-- ---- what each row's test says where it is false
 
--- two points at one place are one point
+-- Two points at one place are one point.
 pub same-point : (p q : Pt ℤ) → same p q ≡ true → p ≡ q
 same-point p q e =
     let d = and-true (eqZ (p .x) (q .x)) (eqZ (p .y) (q .y)) e in
@@ -330,22 +328,118 @@ point-same p q e = subst (λ (z : Pt ℤ). same p z ≡ true) e (itself p)
     itself p =
         rw (T-true (eqZ (p .x) (p .x)) (reads-eqZ (p .x) (p .x) .shows refl)) (T-true (eqZ (p .y) (p .y)) (reads-eqZ (p .y) (p .y) .shows refl))
 
-module _ {odd short : Bool} {ps : List ℤ} {qs : List ℕ} (r : Silent odd short ps qs) where
-  odd-false : ((not (eqb (length ps % 2) 0) || not (eqb (length qs % 2) 0)) ≡ false) × (odd ≡ false)
-  odd-false = or-false (not (eqb (length ps % 2) 0) || not (eqb (length qs % 2) 0)) odd (r .row1)
+-- Row 1: the two lists are of even length, and what else the row asks holds.
+pub even-lengths : (odd : Bool) (a b : ℕ) → (not (eqb (a % 2) 0) || not (eqb (b % 2) 0) || odd) ≡ false → (a % 2 ≡ 0) × (b % 2 ≡ 0) × (odd ≡ false)
+even-lengths odd a b e =
+    let p = or-false (not (eqb (a % 2) 0) || not (eqb (b % 2) 0)) odd e in
+    let q = or-false (not (eqb (a % 2) 0)) (not (eqb (b % 2) 0)) (p .0) in
+    (eqb-true (a % 2) 0 (not-false (eqb (a % 2) 0) (q .0)), eqb-true (b % 2) 0 (not-false (eqb (b % 2) 0) (q .1)), p .1)
 
+-- Row 2: the counts are within their limits.
+pub good-counts : (n m : ℕ) → badCounts n m ≡ false → (3 ≤ n) × (n ≤ 4096) × (m ≤ 12288)
+good-counts n m e =
+    let p = or-false (ltb n 3 || ltb 4096 n) (ltb 12288 m) e in
+    let q = or-false (ltb n 3) (ltb 4096 n) (p .0) in
+    (ltb-false n 3 (q .0), ltb-false 4096 n (q .1), ltb-false 12288 m (p .1))
+
+-- Row 4: both coordinates of the point are within the limit.
+pub near-point : (ps : List ℤ) (i : ℕ) → far ps i ≡ false → (natAbs (getD ps (2 * i) (pos 0)) ≤ limit) × (natAbs (getD ps (2 * i + 1) (pos 0)) ≤ limit)
+unfolding point
+near-point ps i e =
+    let x : ℕ = natAbs (getD ps (2 * i) (pos 0)) in
+    let y : ℕ = natAbs (getD ps (2 * i + 1) (pos 0)) in
+    let p = and-true (leb x limit) (leb y limit) (not-false (within limit (point ps i)) e) in
+    (leb-true x limit (p .0), leb-true y limit (p .1))
+
+-- So each number of a list of even length is within the limit. Past the end of the list the reading is 0.
+pub near-list : (ps : List ℤ) → length ps % 2 ≡ 0 → ((i : ℕ) → i < pointCount ps → far ps i ≡ false) → (i : ℕ) → natAbs (getD ps i (pos 0)) ≤ limit
+near-list ps e h i = go (decLt i (length ps)) (ℕ-discrete (i % 2) 0)
+  where
+    go : Dec (i < length ps) → Dec (i % 2 ≡ 0) → natAbs (getD ps i (pos 0)) ≤ limit
+    go (no k) d = subst (λ (z : ℤ). natAbs z ≤ limit) (sym (List·getD-eq-default ps (pos 0) (omega arith))) (lit≤ tt)
+    go (yes k) (yes d) =
+        let q : 2 * (i / 2) ≡ i = omega arith in
+        subst (λ (j : ℕ). natAbs (getD ps j (pos 0)) ≤ limit) q (near-point ps (i / 2) (h (i / 2) (omega arith)) .0)
+    go (yes k) (no d) =
+        let q : 2 * (i / 2) + 1 ≡ i = omega arith in
+        subst (λ (j : ℕ). natAbs (getD ps j (pos 0)) ≤ limit) q (near-point ps (i / 2) (h (i / 2) (omega arith)) .1)
+
+-- Row 5: the base is counterclockwise as it is read, since a clockwise one is turned.
+pub area-turns : (ps : List ℤ) → noArea ps ≡ false → Pos (baseArea (base ps))
+unfolding base clockwise
+area-turns ps n = go (sign (orient a b c))
+  where
+    a : Pt ℤ
+    a = point ps 0
+
+    b : Pt ℤ
+    b = point ps 1
+
+    c : Pt ℤ
+    c = point ps 2
+
+    turned : (t : Bool) → t ≡ true → Pos (negℤ (orient a b c)) → Pos (orient a (point ps (cond t 2 1)) (point ps (cond t 1 2)))
+    turned t e h = rw e (pos-by (orient-swap a c b ∙ ap negℤ (sym (orient-cyc a b c ∙ orient-cyc b c a))) h)
+
+    kept : (t : Bool) → t ≡ false → Pos (orient a b c) → Pos (orient a (point ps (cond t 2 1)) (point ps (cond t 1 2)))
+    kept t e h = rw e h
+
+    go : Sign (orient a b c) → Pos (baseArea (base ps))
+    go (is-neg h) = turned (clockwise ps) (posb-yes (negℤ (orient a b c)) h) h
+    go (is-pos h) = kept (clockwise ps) (posb-no (negℤ (orient a b c)) (pos-by (negℤ-negℤ (orient a b c)) h)) h
+    go (is-zero e) = absurd (false-not n (reads-eqZ (orient a b c) (pos 0) .shows e))
+
+-- Row 6: the point is in the base or on its boundary.
+pub not-outside : (ps : List ℤ) (i : ℕ) → outside ps i ≡ false → InBase (base ps) (point ps i)
+not-outside ps i e = each
+  where
+    ok : (s : Side) → rightOf ps s (point ps i) ≡ false → NonNeg (orient (base ps s) (base ps (next s)) (point ps i))
+    ok s h =
+        nn-by (sym (negℤ-negℤ (orient (base ps s) (base ps (next s)) (point ps i))))
+        (not-posb (negℤ (orient (base ps s) (base ps (next s)) (point ps i))) h)
+
+    last : ((rightOf ps s0 (point ps i) || rightOf ps s1 (point ps i)) ≡ false) × (rightOf ps s2 (point ps i) ≡ false)
+    last = or-false (rightOf ps s0 (point ps i) || rightOf ps s1 (point ps i)) (rightOf ps s2 (point ps i)) e
+
+    first : (rightOf ps s0 (point ps i) ≡ false) × (rightOf ps s1 (point ps i) ≡ false)
+    first = or-false (rightOf ps s0 (point ps i)) (rightOf ps s1 (point ps i)) (last .0)
+
+    each : InBase (base ps) (point ps i)
+    each s0 = ok s0 (first .0)
+    each s1 = ok s1 (first .1)
+    each s2 = ok s2 (last .1)
+
+-- Row 7: no two of the points below n are equal.
+pub all-differ : (ps : List ℤ) (n : ℕ) → ((i : ℕ) → i < n → again ps i ≡ false) → (i j : ℕ) → i < n → j < n → point ps i ≡ point ps j → i ≡ j
+all-differ ps n h i j l m e = go (decLt i j) (decLt j i)
+  where
+    clear : (j i : ℕ) → i < n → j < i → point ps j ≡ point ps i → ⊥
+    clear j i l k e =
+        false-not (any-false i (λ j. same (point ps j) (point ps i)) (h i l) j k) (true-T (point-same (point ps j) (point ps i) e))
+
+    go : Dec (i < j) → Dec (j < i) → i ≡ j
+    go (yes k) d = absurd (clear i j m k e)
+    go (no k) (yes d) = absurd (clear j i l d (sym e))
+    go (no k) (no d) = omega arith
+
+-- Row 8: both ends of the pair are below n, and they differ.
+pub good-pair : (n : ℕ) (qs : List ℕ) (k : ℕ) → badPair n qs k ≡ false → (endA qs k < n) × (endB qs k < n) × ¬ (endA qs k ≡ endB qs k)
+good-pair n qs k e =
+    let p = or-false (leb n (endA qs k) || leb n (endB qs k)) (eqb (endA qs k) (endB qs k)) e in
+    let q = or-false (leb n (endA qs k)) (leb n (endB qs k)) (p .0) in
+    (leb-false n (endA qs k) (q .0), leb-false n (endB qs k) (q .1), eqb-false (endA qs k) (endB qs k) (p .1))
+
+-- ---- what is known of points and pairs that no row refuses
+
+module _ {odd short : Bool} {ps : List ℤ} {qs : List ℕ} (r : Silent odd short ps qs) where
   pub even-points : length ps % 2 ≡ 0
-  even-points =
-      eqb-true (length ps % 2) 0
-      (not-false (eqb (length ps % 2) 0) (or-false (not (eqb (length ps % 2) 0)) (not (eqb (length qs % 2) 0)) (odd-false .0) .0))
+  even-points = even-lengths odd (length ps) (length qs) (r .row1) .0
 
   pub even-pairs : length qs % 2 ≡ 0
-  even-pairs =
-      eqb-true (length qs % 2) 0
-      (not-false (eqb (length qs % 2) 0) (or-false (not (eqb (length ps % 2) 0)) (not (eqb (length qs % 2) 0)) (odd-false .0) .1))
+  even-pairs = even-lengths odd (length ps) (length qs) (r .row1) .1
 
   pub not-odd : odd ≡ false
-  not-odd = odd-false .1
+  not-odd = even-lengths odd (length ps) (length qs) (r .row1) .2
 
   pub points-length : length ps ≡ 2 * pointCount ps
   points-length = let e = even-points in omega arith
@@ -353,112 +447,41 @@ module _ {odd short : Bool} {ps : List ℤ} {qs : List ℕ} (r : Silent odd shor
   pub pairs-length : length qs ≡ 2 * pairCount qs
   pairs-length = let e = even-pairs in omega arith
 
-  counts : ((ltb (pointCount ps) 3 || ltb 4096 (pointCount ps)) ≡ false) × (ltb 12288 (pairCount qs) ≡ false)
-  counts = or-false (ltb (pointCount ps) 3 || ltb 4096 (pointCount ps)) (ltb 12288 (pairCount qs)) (r .row2)
-
   pub points-least : 3 ≤ pointCount ps
-  points-least = ltb-false (pointCount ps) 3 (or-false (ltb (pointCount ps) 3) (ltb 4096 (pointCount ps)) (counts .0) .0)
+  points-least = good-counts (pointCount ps) (pairCount qs) (r .row2) .0
 
   pub points-most : pointCount ps ≤ 4096
-  points-most = ltb-false 4096 (pointCount ps) (or-false (ltb (pointCount ps) 3) (ltb 4096 (pointCount ps)) (counts .0) .1)
+  points-most = good-counts (pointCount ps) (pairCount qs) (r .row2) .1
 
   pub pairs-most : pairCount qs ≤ 12288
-  pairs-most = ltb-false 12288 (pairCount qs) (counts .1)
-
-  -- row 4: each coordinate is within the limit, and past the end of the list the reading is 0
-  near : (i : ℕ) → i < pointCount ps → (natAbs (getD ps (2 * i) (pos 0)) ≤ limit) × (natAbs (getD ps (2 * i + 1) (pos 0)) ≤ limit)
-  unfolding point
-  near i l =
-      let p = and-true (leb (natAbs (getD ps (2 * i) (pos 0))) limit) (leb (natAbs (getD ps (2 * i + 1) (pos 0))) limit)
-      (not-false (within limit (point ps i)) (r .row4 i l)) in
-      (leb-true (natAbs (getD ps (2 * i) (pos 0))) limit (p .0), leb-true (natAbs (getD ps (2 * i + 1) (pos 0))) limit (p .1))
+  pairs-most = good-counts (pointCount ps) (pairCount qs) (r .row2) .2
 
   pub coordinates : (i : ℕ) → natAbs (getD ps i (pos 0)) ≤ limit
-  coordinates i = go (decLt i (length ps)) (ℕ-discrete (i % 2) 0)
-    where
-      go : Dec (i < length ps) → Dec (i % 2 ≡ 0) → natAbs (getD ps i (pos 0)) ≤ limit
-      go (no k) d = subst (λ (z : ℤ). natAbs z ≤ limit) (sym (List·getD-eq-default ps (pos 0) (omega arith))) (lit≤ tt)
-      go (yes k) (yes d) =
-          let q : 2 * (i / 2) ≡ i = omega arith in
-          subst (λ (j : ℕ). natAbs (getD ps j (pos 0)) ≤ limit) q (near (i / 2) (omega (arith, points-length)) .0)
-      go (yes k) (no d) =
-          let q : 2 * (i / 2) + 1 ≡ i = omega arith in
-          subst (λ (j : ℕ). natAbs (getD ps j (pos 0)) ≤ limit) q (near (i / 2) (omega (arith, points-length)) .1)
+  coordinates = near-list ps even-points (r .row4)
 
-  -- row 5: the base is counterclockwise as it is read
   pub base-turns : Pos (baseArea (base ps))
-  unfolding base clockwise
-  base-turns = go (sign (orient (point ps 0) (point ps 1) (point ps 2)))
-    where
-      turned : (b : Bool) → b ≡ true → Pos (negℤ (orient (point ps 0) (point ps 1) (point ps 2)))
-          → Pos (orient (point ps 0) (point ps (cond b 2 1)) (point ps (cond b 1 2)))
-      turned b e h =
-          let q = orient-cyc (point ps 0) (point ps 1) (point ps 2) ∙ orient-cyc (point ps 1) (point ps 2) (point ps 0) in
-          rw e (pos-by (orient-swap (point ps 0) (point ps 2) (point ps 1) ∙ ap negℤ (sym q)) h)
+  base-turns = area-turns ps (r .row5)
 
-      kept : (b : Bool) → b ≡ false → Pos (orient (point ps 0) (point ps 1) (point ps 2))
-          → Pos (orient (point ps 0) (point ps (cond b 2 1)) (point ps (cond b 1 2)))
-      kept b e h = rw e h
-
-      go : Sign (orient (point ps 0) (point ps 1) (point ps 2)) → Pos (baseArea (base ps))
-      go (is-neg h) = turned (clockwise ps) (posb-yes (negℤ (orient (point ps 0) (point ps 1) (point ps 2))) h) h
-      go (is-pos h) =
-          kept (clockwise ps)
-          (posb-no (negℤ (orient (point ps 0) (point ps 1) (point ps 2))) (pos-by (negℤ-negℤ (orient (point ps 0) (point ps 1) (point ps 2))) h)) h
-      go (is-zero e) =
-          absurd (false-not (r .row5) (reads-eqZ (orient (point ps 0) (point ps 1) (point ps 2)) (pos 0) .shows e))
-
-  -- row 6
   pub in-base : (i : ℕ) → i < pointCount ps → InBase (base ps) (point ps i)
-  in-base i l = each
-    where
-      ok : (s : Side) → rightOf ps s (point ps i) ≡ false → NonNeg (orient (base ps s) (base ps (next s)) (point ps i))
-      ok s e =
-          nn-by (sym (negℤ-negℤ (orient (base ps s) (base ps (next s)) (point ps i))))
-          (not-posb (negℤ (orient (base ps s) (base ps (next s)) (point ps i))) e)
+  in-base i l = not-outside ps i (r .row6 i l)
 
-      three : ((rightOf ps s0 (point ps i) || rightOf ps s1 (point ps i)) ≡ false) × (rightOf ps s2 (point ps i) ≡ false)
-      three = or-false (rightOf ps s0 (point ps i) || rightOf ps s1 (point ps i)) (rightOf ps s2 (point ps i)) (r .row6 i l)
-
-      each : InBase (base ps) (point ps i)
-      each s0 = ok s0 (or-false (rightOf ps s0 (point ps i)) (rightOf ps s1 (point ps i)) (three .0) .0)
-      each s1 = ok s1 (or-false (rightOf ps s0 (point ps i)) (rightOf ps s1 (point ps i)) (three .0) .1)
-      each s2 = ok s2 (three .1)
-
-  -- row 7
   pub no-two : (i j : ℕ) → i < pointCount ps → j < pointCount ps → point ps i ≡ point ps j → i ≡ j
-  no-two i j l m e = go (decLt i j) (decLt j i)
-    where
-      clear : (j i : ℕ) → i < pointCount ps → j < i → point ps j ≡ point ps i → ⊥
-      clear j i l k e =
-          false-not (any-false i (λ j. same (point ps j) (point ps i)) (r .row7 i l) j k) (true-T (point-same (point ps j) (point ps i) e))
-
-      go : Dec (i < j) → Dec (j < i) → i ≡ j
-      go (yes k) d = absurd (clear i j m k e)
-      go (no k) (yes d) = absurd (clear j i l d (sym e))
-      go (no k) (no d) = omega arith
-
-  -- row 8
-  ends : (k : ℕ) → k < pairCount qs →
-      ((leb (pointCount ps) (endA qs k) || leb (pointCount ps) (endB qs k)) ≡ false) × (eqb (endA qs k) (endB qs k) ≡ false)
-  ends k l = or-false (leb (pointCount ps) (endA qs k) || leb (pointCount ps) (endB qs k)) (eqb (endA qs k) (endB qs k)) (r .row8 k l)
+  no-two = all-differ ps (pointCount ps) (r .row7)
 
   pub end-a : (k : ℕ) → k < pairCount qs → endA qs k < pointCount ps
-  end-a k l =
-      leb-false (pointCount ps) (endA qs k) (or-false (leb (pointCount ps) (endA qs k)) (leb (pointCount ps) (endB qs k)) (ends k l .0) .0)
+  end-a k l = good-pair (pointCount ps) qs k (r .row8 k l) .0
 
   pub end-b : (k : ℕ) → k < pairCount qs → endB qs k < pointCount ps
-  end-b k l =
-      leb-false (pointCount ps) (endB qs k) (or-false (leb (pointCount ps) (endA qs k)) (leb (pointCount ps) (endB qs k)) (ends k l .0) .1)
+  end-b k l = good-pair (pointCount ps) qs k (r .row8 k l) .1
 
   pub ends-differ : (k : ℕ) → k < pairCount qs → ¬ (endA qs k ≡ endB qs k)
-  ends-differ k l = eqb-false (endA qs k) (endB qs k) (ends k l .1)
+  ends-differ k l = good-pair (pointCount ps) qs k (r .row8 k l) .2
 
-  -- row 9
+  -- No point lies strictly inside a pair's segment.
   pub clear-of : (k i : ℕ) → k < pairCount qs → i < pointCount ps → inSegment (point ps (endA qs k)) (point ps (endB qs k)) (point ps i) ≡ false
   clear-of k i l m = any-false (pointCount ps) (λ i. inSegment (point ps (endA qs k)) (point ps (endB qs k)) (point ps i)) (r .row9 k l) i m
 
-  -- row 10
+  -- No pair properly crosses one with a lower index.
   pub uncrossed : (k j : ℕ) → k < pairCount qs → j < k →
       crosses (point ps (endA qs j)) (point ps (endB qs j)) (point ps (endA qs k)) (point ps (endB qs k)) ≡ false
   uncrossed k j l m =

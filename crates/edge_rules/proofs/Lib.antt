@@ -1,0 +1,2 @@
+pub mod Rule7
+mod Rule3

@@ -1,0 +1,3 @@
+mod Base
+mod Areas
+mod Step3
