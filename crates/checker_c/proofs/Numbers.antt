@@ -1,5 +1,5 @@
 -- The number of a broken rule is at most 8, so its answer fits. Assumes nothing.
-use mathlib.Core.Path.{_≡_, refl, sym, ap, _∙_, subst}
+use mathlib.Core.Path.{_≡_, refl, subst}
 use mathlib.Core.Bool.{Bool, true, false, not, _||_}
 use mathlib.Core.List.{List}
 use Prim.Native.Nat.{ℕ, _≤_, _%_}

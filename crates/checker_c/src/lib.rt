@@ -1,11 +1,10 @@
 // The checker for programs in other languages, by numbers alone. The benchmark links it.
 ghost use mathlib.Core.Path.{_≡_};
+ghost use mathlib.Core.Bool.{false};
 ghost use lib.ListN.{length};
-ghost use Rattle.tables.specs.Answers.{ofChecked};
 ghost use Rattle.tables.specs.Data.{pointCount};
 ghost use Rattle.tables.specs.Refusals.{rows};
 ghost use Rattle.tables.specs.Verdicts.{verdict, leftWork};
-ghost use mathlib.Core.Bool.{false};
 ghost use Rattle.checker_c.specs.Number.{numberOf, refusalNumber};
 use tables::Checked;
 use tables::Refusal;

@@ -1,5 +1,5 @@
 use borrow.Author.Needs.{needs}
-use mathlib.Core.Path.{_≡_, sym, ap, _∙_}
+use mathlib.Core.Path.{sym, ap, _∙_}
 use Rattle.tables.specs.Answers.{ofChecked}
 use Rattle.checker_c.specs.Number.{numberOf}
 use Rattle.checker_c.proofs.checker_rows.Statement.{statement}
