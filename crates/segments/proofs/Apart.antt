@@ -82,23 +82,23 @@ module _ (a b c d : ℤ) (h : Pos (lower c d -ℤ upper a b)) where
   d-over : NonNeg (d -ℤ lower c d)
   d-over = by-bool (ltZ c d) (λ e. rw e (above c d e)) (λ e. rw e (itself d))
 
-  ac : Pos (c -ℤ a)
-  ac = over c (lower c d) (upper a b) a c-over h a-under
+  a-c : Pos (c -ℤ a)
+  a-c = over c (lower c d) (upper a b) a c-over h a-under
 
-  ad : Pos (d -ℤ a)
-  ad = over d (lower c d) (upper a b) a d-over h a-under
+  a-d : Pos (d -ℤ a)
+  a-d = over d (lower c d) (upper a b) a d-over h a-under
 
-  bc : Pos (c -ℤ b)
-  bc = over c (lower c d) (upper a b) b c-over h b-under
+  b-c : Pos (c -ℤ b)
+  b-c = over c (lower c d) (upper a b) b c-over h b-under
 
-  bd : Pos (d -ℤ b)
-  bd = over d (lower c d) (upper a b) b d-over h b-under
+  b-d : Pos (d -ℤ b)
+  b-d = over d (lower c d) (upper a b) b d-over h b-under
 
 rising : (a b c d : ℤ) → Pos (lower c d -ℤ upper a b) → Gap a b c d
-rising a b c d h = gap false (pos-by (swap b d) (bd a b c d h)) (ad a b c d h) (bc a b c d h) (pos-by (swap a c) (ac a b c d h))
+rising a b c d h = gap false (pos-by (swap b d) (b-d a b c d h)) (a-d a b c d h) (b-c a b c d h) (pos-by (swap a c) (a-c a b c d h))
 
 falling : (a b c d : ℤ) → Pos (lower a b -ℤ upper c d) → Gap a b c d
-falling a b c d h = gap true (bd c d a b h) (pos-by (swap d a) (bc c d a b h)) (pos-by (swap c b) (ad c d a b h)) (ac c d a b h)
+falling a b c d h = gap true (b-d c d a b h) (pos-by (swap d a) (b-c c d a b h)) (pos-by (swap c b) (a-d c d a b h)) (a-c c d a b h)
 
 to-gap : (a b c d : ℤ) → apart a b c d ≡ true → Gap a b c d
 to-gap a b c d e = go (lower c d -ℤ upper a b) (lower a b -ℤ upper c d) e (rising a b c d) (falling a b c d)

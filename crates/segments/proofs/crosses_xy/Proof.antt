@@ -7,7 +7,7 @@ use Rattle.plane.specs.Determinants.{orient}
 use Rattle.tables.specs.Refusals.{opposed}
 use Rattle.segments.specs.Tests.{apart}
 use Rattle.segments.proofs.Points.{four, told4, again}
-use Rattle.segments.proofs.SignTests.{opposite-told}
+use Rattle.segments.proofs.SignTests.{opposed4}
 use Rattle.segments.proofs.Inside.{crossing}
 use Rattle.segments.proofs.Apart.{apart-x, apart-y}
 use Rattle.segments.proofs.crosses_xy.Statement.{statement}
@@ -20,12 +20,12 @@ abbrev ρ : tie.Start → List ℤ
 sides : (c : tie.After-opposite) {v : Bool} → c .opposite .result ≡ v → four (λ a b c d. opposed (orient a b c) (orient a b d)) (ρ (c .before .before .before .before .before .before .before)) ≡ v
 sides c h =
     let s = c .before .before .before .before .before .before .before in
-    told4 (ρ s) (s .pre) (λ a b c d. opposed (orient a b c) (orient a b d)) (opposite-told _ _ (c .before .before .orient-xy .ensures) (c .before .orient-xy2 .ensures) (c .opposite .ensures)) h
+    opposed4 (ρ s) (s .pre) (λ a b c d. orient a b c) (λ a b c d. orient a b d) (c .before .before .orient-xy .ensures) (c .before .orient-xy2 .ensures) (c .opposite .ensures) h
 
 sides-2 : (c : tie.After-opposite2) → four (λ a b c d. opposed (orient c d a) (orient c d b)) (ρ (c .before .before .before .before .before .before .before .before .before .before .before)) ≡ c .opposite2 .result
 sides-2 c =
     let s = c .before .before .before .before .before .before .before .before .before .before .before in
-    told4 (ρ s) (s .pre) (λ a b c d. opposed (orient c d a) (orient c d b)) (opposite-told _ _ (c .before .before .orient-xy3 .ensures) (c .before .orient-xy4 .ensures) (c .opposite2 .ensures)) refl
+    opposed4 (ρ s) (s .pre) (λ a b c d. orient c d a) (λ a b c d. orient c d b) (c .before .before .orient-xy3 .ensures) (c .before .orient-xy4 .ensures) (c .opposite2 .ensures) refl
 
 returns : tie.Need-returns
 returns c =

@@ -8,7 +8,7 @@ use Rattle.plane.specs.Determinants.{orient}
 use Rattle.tables.specs.Data.{same}
 use Rattle.tables.specs.Refusals.{between}
 use Rattle.segments.proofs.Points.{three, told3}
-use Rattle.segments.proofs.SignTests.{zero-told}
+use Rattle.segments.proofs.SignTests.{zero3}
 use Rattle.segments.proofs.Inside.{inside}
 use Rattle.segments.proofs.in_segment_xy.Statement.{statement}
 use Rattle.segments.proofs.in_segment_xy.Tie as tie
@@ -26,7 +26,7 @@ in-y c h = let s = c .before .before .before in told3 (ρ s) (s .pre) (λ a b p.
 flat : (c : tie.After-is-zero) {v : Bool} → c .is-zero .result ≡ v → three (λ a b p. eqZ (orient a b p) (pos 0)) (ρ (c .before .before .before .before .before .before)) ≡ v
 flat c h =
     let s = c .before .before .before .before .before .before in
-    told3 (ρ s) (s .pre) (λ a b p. eqZ (orient a b p) (pos 0)) (zero-told _ (c .before .orient-xy .ensures) (c .is-zero .ensures)) h
+    zero3 (ρ s) (s .pre) orient (c .before .orient-xy .ensures) (c .is-zero .ensures) h
 
 at-a : (c : tie.After-same) {v : Bool} → c .same .result ≡ v → three (λ a b p. same p a) (ρ (c .before .before .before .before .before .before .before .before)) ≡ v
 at-a c h =

@@ -1,0 +1,61 @@
+// The checker for programs in other languages, by numbers alone. The benchmark links it.
+ghost use mathlib.Core.Path.{_≡_};
+ghost use mathlib.Core.Bool.{false};
+ghost use lib.ListN.{length};
+ghost use Rattle.tables.specs.Data.{pointCount};
+ghost use Rattle.tables.specs.Refusals.{rows};
+ghost use Rattle.tables.specs.Verdicts.{verdict, leftWork};
+ghost use Rattle.checker_c.specs.Number.{numberOf, refusalNumber};
+use tables::Checked;
+use tables::Refusal;
+use tables::Verdict;
+
+// A refusal's number.
+fn refusal(r: Refusal) -> u32
+    ensures { λ k. ⌜ k ≡ refusalNumber r ⌝ }
+{
+    match r {
+        Refusal::OddLength => 1,
+        Refusal::Counts => 2,
+        Refusal::Room => 3,
+        Refusal::FarPoint(_) => 4,
+        Refusal::NoArea => 5,
+        Refusal::OutsidePoint(_) => 6,
+        Refusal::EqualPoint(_) => 7,
+        Refusal::BadPair(_) => 8,
+        Refusal::BlockedPair(_) => 9,
+        Refusal::CrossingPair(_) => 10,
+        Refusal::StuckPair(_) => 11,
+    }
+}
+
+// 0 for yes, a refusal's number, or 100 and the number of the broken rule; the place is not told.
+#[no_mangle]
+pub extern "C" fn checker_check(
+    points: &[i32],
+    pairs: &[u32],
+    list: &[u32],
+    work: &mut [u32],
+) -> u32
+    ensures answer { λ r. ⌜ r ≡ numberOf (verdict (now (points .entry)) (now (pairs .entry)) (now (list .entry)) (length (now (work .entry)))) ⌝ }
+    ensures work { λ _. ⌜ now (work .exit) ≡ leftWork (verdict (now (points .entry)) (now (pairs .entry)) (now (list .entry)) (length (now (work .entry)))) (pointCount (now (points .entry))) (now (work .entry)) ⌝ }
+{
+    let answer = checker::check(points, pairs, list, work);
+    match answer {
+        Verdict::Yes => 0,
+        Verdict::Breaks(k) => 100 + k,
+        Verdict::Refused(r) => refusal(r),
+    }
+}
+
+// Rows 1 to 10 alone: 0, or the refusal's number.
+#[no_mangle]
+pub extern "C" fn checker_rows(points: &[i32], pairs: &[u32]) -> u32
+    ensures { λ r. ⌜ r ≡ numberOf (rows false false (now (points .entry)) (now (pairs .entry))) ⌝ }
+{
+    let answer = checks::rows(points, pairs, false, false);
+    match answer {
+        Checked::Passed => 0,
+        Checked::Refused(r) => refusal(r),
+    }
+}
