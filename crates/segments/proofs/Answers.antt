@@ -1,4 +1,4 @@
--- The calls of crate signs always know the sign of points within the limit. Assumes nothing.
+-- The circle call of crate signs always knows the sign of points within the limit. Assumes nothing.
 use mathlib.Core.Path.{_≡_, ap, _∙_}
 use mathlib.Core.Bool.{true}
 use mathlib.Core.List.{List, [], _∷_}
@@ -10,27 +10,17 @@ use borrow.Author.Tests.{le-leb}
 use Rattle.algebra.specs.Size.{Small}
 use Rattle.algebra.proofs.Machine.{backs}
 use Rattle.plane.specs.Points.{at}
-use Rattle.plane.specs.Determinants.{orient, incircle}
+use Rattle.plane.specs.Determinants.{incircle}
 use Rattle.signs.specs.Signs.{signZ}
-use Rattle.signs.specs.Answers.{limit, orientAnswer, circleAnswer}
+use Rattle.signs.specs.Answers.{limit, circleAnswer}
 use Rattle.signs.specs.declared.WholeSign.{WholeSign}
 use Rattle.tables.specs.Data.{point}
 use Rattle.segments.specs.Near.{Near}
 use Rattle.segments.specs.Tests.{signOf}
-use Rattle.segments.proofs.Points.{row, three, four, passed3, near-row, read4}
+use Rattle.segments.proofs.Points.{row, four, near-row, read4}
 
 test : (x : ℤ) → natAbs x ≤ limit → leb (natAbs x) limit ≡ true
 test x h = le-leb (natAbs x) limit h
-
-module _ (ax ay bx by cx cy : ℤ) where
-  orient-known : Small limit (ax ∷ ay ∷ bx ∷ by ∷ cx ∷ cy ∷ []) → signOf (orientAnswer limit (at ax ay) (at bx by) (at cx cy)) ≡ signZ (orient (at ax ay) (at bx by) (at cx cy))
-  unfolding orientAnswer
-  orient-known (h0, (h1, (h2, (h3, (h4, (h5, u)))))) = rw (test ax h0, test ay h1, test bx h2, test by h3, test cx h4, test cy h5)
-
-  -- The call was passed coordinates that went through bits.
-  pub orient-told : Small limit (ax ∷ ay ∷ bx ∷ by ∷ cx ∷ cy ∷ []) → {r : WholeSign} → r ≡ three (orientAnswer limit) (backs w32 (ax ∷ ay ∷ bx ∷ by ∷ cx ∷ cy ∷ [])) →
-      signOf r ≡ signZ (orient (at ax ay) (at bx by) (at cx cy))
-  orient-told h e = ap signOf (e ∙ passed3 (ax ∷ ay ∷ bx ∷ by ∷ cx ∷ cy ∷ []) h (orientAnswer limit)) ∙ orient-known h
 
 circle-known : (ax ay bx by cx cy dx dy : ℤ) → Small limit (ax ∷ ay ∷ bx ∷ by ∷ cx ∷ cy ∷ dx ∷ dy ∷ []) →
     signOf (circleAnswer limit (at ax ay) (at bx by) (at cx cy) (at dx dy)) ≡ signZ (incircle (at ax ay) (at bx by) (at cx cy) (at dx dy))

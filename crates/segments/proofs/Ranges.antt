@@ -1,15 +1,16 @@
--- A number is between two others exactly where the product of its differences from them is not positive. Assumes nothing.
+-- A number is between two others exactly where the product of its differences from them is not positive, and two numbers have opposite
+-- signs exactly where their product is negative. Assumes nothing.
 use mathlib.Core.Path.{_≡_, refl, sym, ap, _∙_, subst}
 use mathlib.Core.Bool.{Bool, true, false, not, _&&_, _||_}
 use mathlib.Core.List.{[], _∷_}
-use lib.IntN.{ℤ, pos, negℤ, _-ℤ_, _*ℤ_, zero-*ℤ, *ℤ-zero, negℤ-negℤ}
-use lib.Signed.{leZ}
+use lib.IntN.{ℤ, pos, negℤ, _-ℤ_, _*ℤ_, zero-*ℤ, *ℤ-zero, negℤ-negℤ, +ℤ-idl}
+use lib.Signed.{ltZ, leZ}
 use Rattle.algebra.specs.Order.{Pos}
 use Rattle.algebra.specs.Tests.{posb}
 use Rattle.algebra.proofs.Ring.{var, _⊖_, ⊝_, solve}
 use Rattle.algebra.proofs.Order.{Sign, is-pos, is-neg, is-zero, sign}
 use Rattle.plane.proofs.Sign.{sg, eqB, sg-mul, posb-yes, posb-no}
-use Rattle.tables.specs.Refusals.{between}
+use Rattle.tables.specs.Refusals.{between, opposed}
 use Rattle.segments.proofs.Compare.{lt-sub, le-not}
 
 -- ---- a number is zero, or it or its negation is positive
@@ -70,3 +71,23 @@ ge-diff a z = le-diff z a ∙ ap (λ (x : ℤ). not (posb x)) (solve (var 0 ⊖ 
 
 pub between-product : (a b z : ℤ) → leZ ((z -ℤ a) *ℤ (z -ℤ b)) (pos 0) ≡ between a b z
 between-product a b z = le-not ((z -ℤ a) *ℤ (z -ℤ b)) (pos 0) ∙ product (z -ℤ a) (z -ℤ b) ∙ sym (rw (ge-diff a z, le-diff b z, ge-diff b z, le-diff a z))
+
+-- ---- opposite signs
+
+pub opposed-product : (y z : ℤ) → ltZ (y *ℤ z) (pos 0) ≡ opposed y z
+opposed-product y z = lt-sub (y *ℤ z) (pos 0) ∙ ap posb (+ℤ-idl (negℤ (y *ℤ z))) ∙ go (side y) (side z)
+  where
+    both : (s t : Bool) → not (eqB s t) ≡ (s && not t) || (not s && t)
+    both true true = refl
+    both true false = refl
+    both false true = refl
+    both false false = refl
+
+    never : (s : Bool) → false ≡ (s && false) || (not s && false)
+    never true = refl
+    never false = refl
+
+    go : Side y → Side z → posb (negℤ (y *ℤ z)) ≡ opposed y z
+    go (on s h) (on t k) = rw (on-neg (eqB s t) (y *ℤ z) (sg-mul s t y z h k), on-pos s y h, on-neg s y h, on-pos t z k, on-neg t z k) (both s t)
+    go (on s h) (nil e) = rw (e, *ℤ-zero y, on-pos s y h, on-neg s y h) (never s)
+    go (nil e) w = rw (e, zero-*ℤ z)

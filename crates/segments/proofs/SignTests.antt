@@ -1,6 +1,6 @@
 -- A test of a number's sign is the test of the number. Assumes nothing.
-use mathlib.Core.Path.{_≡_, refl, sym, ap, ap₂, _∙_}
-use mathlib.Core.Bool.{Bool, true, false, _||_}
+use mathlib.Core.Path.{_≡_, refl, sym, ap, _∙_}
+use mathlib.Core.Bool.{Bool}
 use mathlib.Core.List.{List}
 use Prim.Native.Nat.{zero, suc}
 use native.Mathlib.Nat.{zero-lt-suc}
@@ -15,9 +15,8 @@ use Rattle.plane.specs.Points.{Pt}
 use Rattle.signs.specs.Signs.{signZ}
 use Rattle.signs.specs.Answers.{limit}
 use Rattle.signs.specs.declared.Sign.{Sign}
-use Rattle.tables.specs.Refusals.{opposed}
-use Rattle.segments.specs.Tests.{isPos, isNeg, isZero, opposite}
-use Rattle.segments.proofs.Points.{three, four, told3, told4}
+use Rattle.segments.specs.Tests.{isPos, isNeg, isZero}
+use Rattle.segments.proofs.Points.{three, told3}
 
 pos-test : (z : ℤ) → isPos (signZ z) ≡ posb z
 unfolding signZ
@@ -37,16 +36,6 @@ zero-test (pos zero) = refl
 zero-test (pos (suc n)) = sym (eqb·suc-zero n)
 zero-test (negsuc n) = refl
 
-opposite-test : (y z : ℤ) → opposite (signZ y) (signZ z) ≡ opposed y z
-unfolding signZ
-opposite-test (pos zero) z = refl
-opposite-test (pos (suc n)) z = rw (lt-ltb 0 (suc n) (zero-lt-suc n)) (neg-test z ∙ only (posb (negℤ z)))
-  where
-    only : (b : Bool) → b ≡ b || false
-    only true = refl
-    only false = refl
-opposite-test (negsuc n) z = rw (lt-ltb 0 (suc n) (zero-lt-suc n)) (pos-test z)
-
 -- A call told r of the sign that another call told of z.
 module _ (z : ℤ) {s : Sign} (e : s ≡ signZ z) {r : Bool} where
   pub pos-told : r ≡ isPos s → r ≡ posb z
@@ -58,15 +47,7 @@ module _ (z : ℤ) {s : Sign} (e : s ≡ signZ z) {r : Bool} where
   pub zero-told : r ≡ isZero s → r ≡ eqZ z (pos 0)
   zero-told h = h ∙ ap isZero e ∙ zero-test z
 
-opposite-told : (y z : ℤ) {s t : Sign} → s ≡ signZ y → t ≡ signZ z → {r : Bool} → r ≡ opposite s t → r ≡ opposed y z
-opposite-told y z d e h = h ∙ ap₂ opposite d e ∙ opposite-test y z
-
 -- The calls were passed numbers that went through bits, and r turned out to be v.
 module _ (ρ : List ℤ) (small : Small limit ρ) where
   pub zero3 : (f : Pt ℤ → Pt ℤ → Pt ℤ → ℤ) {s : Sign} → s ≡ signZ (three f (backs w32 ρ)) → {r v : Bool} → r ≡ isZero s → r ≡ v → three (λ a b c. eqZ (f a b c) (pos 0)) ρ ≡ v
   zero3 f e h i = told3 ρ small (λ a b c. eqZ (f a b c) (pos 0)) (zero-told (three f (backs w32 ρ)) e h) i
-
-  pub opposed4 : (f g : Pt ℤ → Pt ℤ → Pt ℤ → Pt ℤ → ℤ) {s t : Sign} → s ≡ signZ (four f (backs w32 ρ)) → t ≡ signZ (four g (backs w32 ρ)) →
-      {r v : Bool} → r ≡ opposite s t → r ≡ v → four (λ a b c d. opposed (f a b c d) (g a b c d)) ρ ≡ v
-  opposed4 f g d e h i =
-      told4 ρ small (λ a b c d'. opposed (f a b c d') (g a b c d')) (opposite-told (four f (backs w32 ρ)) (four g (backs w32 ρ)) d e h) i

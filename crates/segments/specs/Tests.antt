@@ -27,12 +27,6 @@ isZero Neg = false
 isZero Zero = true
 isZero Pos = false
 
--- One is positive and the other is negative.
-abbrev pub opposite : Sign → Sign → Bool
-opposite Neg t = isPos t
-opposite Zero t = false
-opposite Pos t = isNeg t
-
 abbrev pub lower : ℤ → ℤ → ℤ
 lower a b = cond (ltZ a b) a b
 

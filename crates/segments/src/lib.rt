@@ -2,7 +2,8 @@
 // that cross.
 //
 // Document 01, "Signs" and refusals 9 and 10, says what each call answers. Refusals 9 and 10 try each pair with each point and with each
-// other pair, and the boxes decide nearly all of these calls. So each call compares the coordinates first and asks for an orientation last.
+// other pair, so the first tests are those that nearly always go one way. A point is seldom on the line of a segment, but may well be in
+// its box: so `in_segment_xy` asks for the orientation first. Boxes of two segments seldom overlap: so `crosses_xy` compares them first.
 ghost use mathlib.Core.Path.{_≡_};
 ghost use mathlib.Core.List.{[], _∷_};
 ghost use Prim.Native.Nat.{_<_};
@@ -14,9 +15,9 @@ ghost use Rattle.plane.specs.Determinants.{orient, incircle};
 ghost use Rattle.signs.specs.Signs.{signZ};
 ghost use Rattle.signs.specs.Answers.{limit};
 ghost use Rattle.tables.specs.Data.{pointCount, point, same};
-ghost use Rattle.tables.specs.Refusals.{between, inSegment, crosses};
+ghost use Rattle.tables.specs.Refusals.{between, inSegment, opposed, crosses};
 ghost use Rattle.segments.specs.Near.{Near};
-ghost use Rattle.segments.specs.Tests.{signOf, isPos, isNeg, isZero, opposite, lower, upper, apart};
+ghost use Rattle.segments.specs.Tests.{signOf, isPos, isNeg, isZero, lower, upper, apart};
 use signs::Sign;
 use signs::WholeSign;
 
@@ -82,7 +83,7 @@ fn orient_xy(ax: i32, ay: i32, bx: i32, by: i32, cx: i32, cy: i32) -> Sign
     requires { ⌜ Small limit (ax ∷ ay ∷ bx ∷ by ∷ cx ∷ cy ∷ []) ⌝ }
     ensures { λ r. ⌜ r ≡ signZ (orient (at ax ay) (at bx by) (at cx cy)) ⌝ }
 {
-    known(signs::orient_sign(ax, ay, bx, by, cx, cy))
+    Sign::of_i64(signs::orient_det(ax, ay, bx, by, cx, cy))
 }
 
 // The sign of the orientation of three numbered points.
@@ -165,9 +166,9 @@ pub fn in_segment_xy(ax: i32, ay: i32, bx: i32, by: i32, px: i32, py: i32) -> bo
     requires { ⌜ Small limit (ax ∷ ay ∷ bx ∷ by ∷ px ∷ py ∷ []) ⌝ }
     ensures { λ r. ⌜ r ≡ inSegment (at ax ay) (at bx by) (at px py) ⌝ }
 {
-    if between(ax, bx, px) {
-        if between(ay, by, py) {
-            if is_zero(orient_xy(ax, ay, bx, by, px, py)) {
+    if is_zero(orient_xy(ax, ay, bx, by, px, py)) {
+        if between(ax, bx, px) {
+            if between(ay, by, py) {
                 if same(px, py, ax, ay) {
                     return false;
                 }
@@ -215,14 +216,12 @@ fn ranges_apart(a: i32, b: i32, c: i32, d: i32) -> bool
     (lower(c, d) - upper(a, b)) * (lower(a, b) - upper(c, d)) < 0
 }
 
-fn opposite(s: Sign, t: Sign) -> bool
-    ensures { λ r. ⌜ r ≡ opposite s t ⌝ }
+// The points c and d lie strictly on both sides of the line through a and b. The product needs one test where the signs would need four.
+fn on_both_sides(ax: i32, ay: i32, bx: i32, by: i32, cx: i32, cy: i32, dx: i32, dy: i32) -> bool
+    requires { ⌜ Small limit (ax ∷ ay ∷ bx ∷ by ∷ cx ∷ cy ∷ dx ∷ dy ∷ []) ⌝ }
+    ensures { λ r. ⌜ r ≡ opposed (orient (at ax ay) (at bx by) (at cx cy)) (orient (at ax ay) (at bx by) (at dx dy)) ⌝ }
 {
-    match s {
-        Sign::Neg => is_pos(t),
-        Sign::Zero => false,
-        Sign::Pos => is_neg(t),
-    }
+    signs::orient_det(ax, ay, bx, by, cx, cy) * signs::orient_det(ax, ay, bx, by, dx, dy) < 0
 }
 
 // The segments from a to b and from c to d cross properly: the ends of each lie strictly on both sides of the other's line.
@@ -236,12 +235,8 @@ pub fn crosses_xy(ax: i32, ay: i32, bx: i32, by: i32, cx: i32, cy: i32, dx: i32,
     if ranges_apart(ay, by, cy, dy) {
         return false;
     }
-    let c_side = orient_xy(ax, ay, bx, by, cx, cy);
-    let d_side = orient_xy(ax, ay, bx, by, dx, dy);
-    if opposite(c_side, d_side) {
-        let a_side = orient_xy(cx, cy, dx, dy, ax, ay);
-        let b_side = orient_xy(cx, cy, dx, dy, bx, by);
-        opposite(a_side, b_side)
+    if on_both_sides(ax, ay, bx, by, cx, cy, dx, dy) {
+        on_both_sides(cx, cy, dx, dy, ax, ay, bx, by)
     } else {
         false
     }

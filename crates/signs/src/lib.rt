@@ -124,7 +124,8 @@ fn all_within(ax: i32, ay: i32, bx: i32, by: i32, cx: i32, cy: i32) -> bool
     }
 }
 
-fn orient_det(ax: i32, ay: i32, bx: i32, by: i32, cx: i32, cy: i32) -> i64
+// The orientation of a, b, c, for callers that know their coordinates to be within the limit.
+pub fn orient_det(ax: i32, ay: i32, bx: i32, by: i32, cx: i32, cy: i32) -> i64
     requires { ⌜ Small limit (ax ∷ ay ∷ bx ∷ by ∷ cx ∷ cy ∷ []) ⌝ }
     ensures { λ r. ⌜ r ≡ orient (at ax ay) (at bx by) (at cx cy) ⌝ }
 {
