@@ -1,6 +1,7 @@
 pub mod Answers
 pub mod Data
 pub mod Refusals
+pub mod Figures
 pub mod Rules
 pub mod Verdicts
 pub mod Meaning

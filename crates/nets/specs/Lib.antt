@@ -1,0 +1,9 @@
+pub mod Nets
+pub mod Slots
+pub mod Moves
+pub mod Steps
+pub mod Layout
+pub mod Tilings
+pub mod Flipping
+pub mod Location
+pub mod Building
