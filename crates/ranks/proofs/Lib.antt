@@ -1,0 +1,3 @@
+mod Words
+mod Loops
+mod Places
