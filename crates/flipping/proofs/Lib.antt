@@ -1,0 +1,2 @@
+pub mod Elsewhere
+pub mod Live

@@ -1,0 +1,4 @@
+pub mod Corners
+pub mod Moves
+pub mod Walks
+pub mod Houses
