@@ -1,0 +1,38 @@
+use borrow.Author.Needs.{needs}
+use mathlib.Core.Path.{_≡_, refl}
+use Prim.Native.Nat.{_≤_, _-_}
+use native.Mathlib.Omega.{arith}
+use lib.ListN.{length, length-set}
+use Rattle.build_cases.proofs.scatter.Statement.{statement}
+use Rattle.build_cases.proofs.scatter.Tie as tie
+
+abbrev Inv-loop : tie.InvT-loop
+Inv-loop points₀ n p₀ points p = length points ≡ length points₀
+
+abbrev μ-loop : tie.MeasureT-loop
+μ-loop points₀ n p₀ points p = n - p
+
+loop-holds : tie.Need-loop-holds Inv-loop μ-loop
+loop-holds c = refl
+
+cast-points : tie.Need-cast-points Inv-loop μ-loop
+cast-points c = record { sfits = omega arith }
+
+cast-points-2 : tie.Need-cast-points-2 Inv-loop μ-loop
+cast-points-2 c = record { sfits = omega arith }
+
+slice-set-from-points-2 : tie.Need-slice-set-from-points-2 Inv-loop μ-loop
+slice-set-from-points-2 c = simp length-set (let e = c .before .loop .inv in omega arith)
+
+loop-again : tie.Need-loop-again Inv-loop μ-loop
+loop-again c = simp length-set (c .before .loop .inv)
+
+same-length : tie.Need-same-length Inv-loop μ-loop
+same-length c = c .before .loop .inv
+
+pub scatter-spec : {M : Type 1} → statement M
+scatter-spec =
+    tie.close (tie.spec
+    Inv-loop μ-loop loop-holds cast-points (λ c. search needs) (λ c. search needs) (λ c. search needs)
+    (λ c. search needs) cast-points-2 (λ c. search needs) (λ c. search needs) (λ c. search needs)
+    slice-set-from-points-2 (λ c. search needs) (λ c. omega arith) loop-again same-length (λ c. search needs))
