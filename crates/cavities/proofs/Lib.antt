@@ -1,0 +1,13 @@
+pub mod Biject
+pub mod Net
+pub mod Steps
+pub mod Leaves
+pub mod Fill
+pub mod Close
+pub mod Tiles
+pub mod Choice
+pub mod Strip
+pub mod Walk
+pub mod Recover
+pub mod Run
+pub mod Recovered

@@ -1,0 +1,12 @@
+pub mod Nets
+pub mod Heirs
+pub mod Changes
+pub mod Leaves
+pub mod Fillings
+pub mod Closings
+pub mod Plans
+pub mod Choices
+pub mod Tilings
+pub mod Corridors
+pub mod Recovery
+pub mod Recovered

@@ -1,0 +1,1 @@
+// The pure model of recovery: definitions (specs/) and their laws (proofs/), and no code.

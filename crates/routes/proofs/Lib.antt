@@ -1,0 +1,11 @@
+pub mod Step
+pub mod Chain
+pub mod Scan
+pub mod Start
+pub mod Gate
+pub mod Route
+pub mod Follow
+pub mod Onward
+pub mod Whole
+pub mod Pinched
+pub mod Recovers

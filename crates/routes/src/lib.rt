@@ -1,0 +1,1 @@
+// Recovery never sticks: definitions (specs/) and their laws (proofs/), and no code.
