@@ -1,13 +1,14 @@
 //! Makes the module tree of the original in cargo's output folder, which `src/original.rs` includes,
-//! and links the project's static library.
+//! and links the project's static libraries.
 //!
 //! Each file of the tree is a file of the original, unchanged, or a file of `glue/`, or the one with
 //! the other after it. Glue stands in for what the original's files lean on and is not to be had
-//! here, and reaches what they keep private. It is no part of the original.
+//! here, and reaches what they keep private. It is no part of the original. The crates of a registry
+//! that the files name are glue too, as crates of their own in `glue/crates/`.
 //!
-//! `oracle/compare` sets the variables that are read here:
+//! `oracle/compare`, `oracle/figures` and `bench/cut` set the variables that are read here:
 //! - `ORACLE_SOURCE`, the folder of the original's source files, the one with its `linalg.rs`;
-//! - `ORACLE_LIBRARY`, the folder of `libsigns_c.a`, where that is linked.
+//! - `ORACLE_LIBRARY`, the folder of the static libraries, where one is linked.
 
 use std::path::{Path, PathBuf};
 use std::{env, fs, process};
@@ -25,16 +26,19 @@ use Made::{Glue, Original, OriginalThenGlue};
 /// To build more of the original, name its files here, and give `glue/` what they lean on.
 const TREE: &[(&str, Made)] = &[
     ("lib.rs", Glue),
+    ("cancel.rs", Original),
     ("linalg.rs", Original),
     ("math.rs", Original),
     ("robust/mod.rs", Glue),
+    ("robust/cdt.rs", Original),
+    ("robust/cdt_constraints.rs", Original),
     ("robust/exact/mod.rs", Original),
     ("robust/exact/approx.rs", Original),
-    ("robust/exact/backend.rs", Glue),
+    ("robust/exact/backend.rs", Original),
     ("robust/exact/filtered.rs", OriginalThenGlue),
     ("robust/exact/intpred.rs", OriginalThenGlue),
-    ("robust/exact/predicates.rs", Glue),
-    ("robust/exact/rational.rs", Glue),
+    ("robust/exact/predicates.rs", Original),
+    ("robust/exact/rational.rs", Original),
 ];
 
 fn main() {
@@ -43,7 +47,11 @@ fn main() {
     println!("cargo:rerun-if-env-changed=ORACLE_LIBRARY");
     make_tree();
     if env::var_os("CARGO_FEATURE_LINKED").is_some() {
-        link();
+        link("signs_c");
+    }
+    if env::var_os("CARGO_FEATURE_OURS").is_some() {
+        link("delaunay_c");
+        link("checker_c");
     }
 }
 
@@ -69,22 +77,22 @@ fn make_tree() {
     }
 }
 
-/// Links the static library.
-fn link() {
-    let library = folder("ORACLE_LIBRARY");
-    println!(
-        "cargo:rerun-if-changed={}",
-        library.join("libsigns_c.a").display()
-    );
-    println!("cargo:rustc-link-search=native={}", library.display());
-    println!("cargo:rustc-link-lib=static=signs_c");
+/// Links the static library of this crate of the project.
+fn link(name: &str) {
+    let folder = folder("ORACLE_LIBRARY");
+    let library = folder.join(format!("lib{name}.a"));
+    println!("cargo:rerun-if-changed={}", library.display());
+    println!("cargo:rustc-link-search=native={}", folder.display());
+    println!("cargo:rustc-link-lib=static={name}");
 }
 
 /// The folder that the variable names.
 fn folder(variable: &str) -> PathBuf {
     match env::var_os(variable) {
         Some(path) => PathBuf::from(path),
-        None => stop(&format!("{variable} is not set: build by oracle/compare")),
+        None => stop(&format!(
+            "{variable} is not set: build by oracle/compare, oracle/figures or bench/cut"
+        )),
     }
 }
 

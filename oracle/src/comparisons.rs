@@ -6,8 +6,9 @@ use original::robust::exact::filtered::{glue_orient2d_filter, incircle};
 use original::robust::exact::intpred::glue_decomp;
 use original::robust::exact::Sign;
 
+use crate::generator::Generator;
 use crate::library::Library;
-use crate::patterns::{self, Generator};
+use crate::patterns;
 use crate::reference;
 use crate::report::{float, floats, wholes, Report};
 

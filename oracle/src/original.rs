@@ -1,7 +1,7 @@
 //! The original: the module tree that `build.rs` makes of the original's files, unchanged, and of the
 //! glue. The modules stand at the root of this crate, since the original names them from its root.
 
-// Most of the original is not asked here, and the glue's types have no value.
-#![allow(dead_code, unreachable_code, unused_imports)]
+// Most of the original is not asked here.
+#![allow(dead_code, unused_imports)]
 
 include!(concat!(env!("OUT_DIR"), "/original/lib.rs"));

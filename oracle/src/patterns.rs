@@ -3,48 +3,11 @@
 //! A pattern depends only on the generator and on its own number. The kinds take turns, so a run of
 //! any length has a share of each.
 
+use crate::generator::Generator;
 use crate::reference::REACH;
 
-/// The generator splitmix64.
-pub struct Generator {
-    state: u64,
-}
-
+/// Random floats.
 impl Generator {
-    pub fn new(seed: u64) -> Generator {
-        Generator { state: seed }
-    }
-
-    /// 64 random bits.
-    pub fn bits(&mut self) -> u64 {
-        self.state = self.state.wrapping_add(0x9e37_79b9_7f4a_7c15);
-        let mut z = self.state;
-        z = (z ^ (z >> 30)).wrapping_mul(0xbf58_476d_1ce4_e5b9);
-        z = (z ^ (z >> 27)).wrapping_mul(0x94d0_49bb_1331_11eb);
-        z ^ (z >> 31)
-    }
-
-    /// A whole number from `low` to `high`, both among them.
-    pub fn within(&mut self, low: i64, high: i64) -> i64 {
-        let count = (high - low + 1) as u128;
-        low + ((self.bits() as u128 * count) >> 64) as i64
-    }
-
-    /// The same as an i32.
-    fn whole(&mut self, low: i32, high: i32) -> i32 {
-        self.within(low as i64, high as i64) as i32
-    }
-
-    /// One of the values.
-    fn pick<T: Copy>(&mut self, values: &[T]) -> T {
-        values[self.within(0, values.len() as i64 - 1) as usize]
-    }
-
-    /// True once in `n` times.
-    fn once_in(&mut self, n: i64) -> bool {
-        self.within(1, n) == 1
-    }
-
     /// A float with this biased exponent, cut to 0..=2047, and a random sign and fraction.
     fn at_exponent(&mut self, biased: i64) -> f64 {
         let bits = self.bits();
@@ -396,21 +359,21 @@ fn out_of_reach(g: &mut Generator) -> i32 {
     }
 }
 
-/// Three whole points as ax, ay, bx, by, cx, cy.
-pub fn three_wholes(number: u64, g: &mut Generator) -> [i32; 6] {
-    match number % 8 {
+/// K whole coordinates that make no shape, by one of six patterns; `small` is the size of the small ones.
+fn loose_wholes<const K: usize>(pattern: u64, g: &mut Generator, small: i32) -> [i32; K] {
+    match pattern {
         // Any bits at all, which are seldom in range.
-        0 => [(); 6].map(|_| g.bits() as i32 >> g.within(0, 31)),
+        0 => [(); K].map(|_| g.bits() as i32 >> g.within(0, 31)),
         // Small numbers.
-        1 => [(); 6].map(|_| g.whole(-6, 6)),
+        1 => [(); K].map(|_| g.whole(-small, small)),
         // The whole range.
-        2 => [(); 6].map(|_| g.whole(-REACH, REACH)),
+        2 => [(); K].map(|_| g.whole(-REACH, REACH)),
         // The corners of the range.
-        3 => [(); 6].map(|_| g.pick(&[-REACH, REACH, -REACH + 1, REACH - 1, 0])),
+        3 => [(); K].map(|_| g.pick(&[-REACH, REACH, -REACH + 1, REACH - 1, 0])),
         // The ends of the range, and beyond.
         4 => {
-            let rare = g.pick(&[1, 6, 12]);
-            [(); 6].map(|_| {
+            let rare = g.pick(&[1, K as i64, 2 * K as i64]);
+            [(); K].map(|_| {
                 if g.once_in(rare) {
                     near_end(g)
                 } else {
@@ -418,12 +381,19 @@ pub fn three_wholes(number: u64, g: &mut Generator) -> [i32; 6] {
                 }
             })
         }
-        // One coordinate out of range, any of the six.
-        5 => {
-            let mut p = [(); 6].map(|_| g.whole(-REACH, REACH));
-            p[g.within(0, 5) as usize] = out_of_reach(g);
+        // One coordinate out of range, any of them.
+        _ => {
+            let mut p = [(); K].map(|_| g.whole(-REACH, REACH));
+            p[g.within(0, K as i64 - 1) as usize] = out_of_reach(g);
             p
         }
+    }
+}
+
+/// Three whole points as ax, ay, bx, by, cx, cy.
+pub fn three_wholes(number: u64, g: &mut Generator) -> [i32; 6] {
+    match number % 8 {
+        pattern @ 0..=5 => loose_wholes(pattern, g, 6),
         // Points on a line, or a step off.
         _ => {
             let (dx, dy) = (g.whole(-100, 100), g.whole(-100, 100));
@@ -448,31 +418,7 @@ pub fn three_wholes(number: u64, g: &mut Generator) -> [i32; 6] {
 /// Four whole points as ax, ay, bx, by, cx, cy, dx, dy.
 pub fn four_wholes(number: u64, g: &mut Generator) -> [i32; 8] {
     match number % 8 {
-        // Any bits at all, which are seldom in range.
-        0 => [(); 8].map(|_| g.bits() as i32 >> g.within(0, 31)),
-        // Small numbers.
-        1 => [(); 8].map(|_| g.whole(-4, 4)),
-        // The whole range.
-        2 => [(); 8].map(|_| g.whole(-REACH, REACH)),
-        // The corners of the range.
-        3 => [(); 8].map(|_| g.pick(&[-REACH, REACH, -REACH + 1, REACH - 1, 0])),
-        // The ends of the range, and beyond.
-        4 => {
-            let rare = g.pick(&[1, 8, 16]);
-            [(); 8].map(|_| {
-                if g.once_in(rare) {
-                    near_end(g)
-                } else {
-                    g.whole(-REACH, REACH)
-                }
-            })
-        }
-        // One coordinate out of range, any of the eight.
-        5 => {
-            let mut p = [(); 8].map(|_| g.whole(-REACH, REACH));
-            p[g.within(0, 7) as usize] = out_of_reach(g);
-            p
-        }
+        pattern @ 0..=5 => loose_wholes(pattern, g, 4),
         // Points on a circle, or a step off.
         _ => wholes_on_circle(g, REACH),
     }

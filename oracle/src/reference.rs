@@ -84,7 +84,8 @@ pub fn incircle(p: &[f64; 8]) -> (f64, f64) {
 }
 
 /// Whether the filter of the original's `incircle` answers by this determinant, with room to spare:
-/// twice its bound and more. Where it does not answer, the original goes on to what is not built.
+/// twice its bound and more. Where it does not answer, the original goes on to fractions without bound,
+/// which the glue does not have.
 pub fn incircle_is_plain(det: f64, permanent: f64) -> bool {
     const BOUND: f64 = 10.0 * (f64::EPSILON * 0.5);
     permanent >= 2.0 * f64::MIN_POSITIVE

@@ -9,8 +9,11 @@ const SHOWN: usize = 5;
 pub struct Report {
     /// What is compared with what.
     title: &'static str,
+    /// What is counted: patterns, or figures.
+    things: &'static str,
     /// The names of the expected answers, and how often each was expected.
     answers: Vec<(&'static str, u64)>,
+    /// How many patterns, or figures, were compared, and how many of them differ.
     patterns: u64,
     differences: u64,
     first: Vec<String>,
@@ -18,8 +21,14 @@ pub struct Report {
 
 impl Report {
     pub fn new(title: &'static str, answers: &[&'static str]) -> Report {
+        Report::of("patterns", title, answers)
+    }
+
+    /// The same, of other things than patterns.
+    pub fn of(things: &'static str, title: &'static str, answers: &[&'static str]) -> Report {
         Report {
             title,
+            things,
             answers: answers.iter().map(|name| (*name, 0)).collect(),
             patterns: 0,
             differences: 0,
@@ -66,9 +75,10 @@ impl Report {
             n => format!("DIFFERENT for {n}, the first of them:"),
         };
         println!(
-            "{}: {} patterns ({}): {verdict}",
+            "{}: {} {} ({}): {verdict}",
             self.title,
             self.patterns,
+            self.things,
             answers.join(", ")
         );
         for sentence in &self.first {
