@@ -1,0 +1,3 @@
+pub mod To
+pub mod Corners
+pub mod From
