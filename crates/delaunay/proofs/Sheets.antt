@@ -14,7 +14,7 @@ use Rattle.tables.specs.declared.Refusal.{Refusal}
 use Rattle.tables.specs.declared.Refusal.the-variants.{OddLength, Counts, Room, FarPoint, NoArea, OutsidePoint, EqualPoint, BadPair, BlockedPair, CrossingPair, StuckPair}
 use Rattle.tables.specs.Data.{pointCount, pairCount, point, base}
 use Rattle.tables.specs.Figures.{Figure}
-use Rattle.tables.specs.Refusals.{rows, shortWork}
+use Rattle.tables.specs.Refusals.{rows, shortWork, shortRoom}
 use Rattle.tables.specs.Verdicts.{verdict, cleared}
 use Rattle.tables.proofs.Table.{Silent, silent, silent-rows, or-false, not-outside}
 use Rattle.tables.proofs.Figures.{figure}
@@ -26,7 +26,7 @@ use Rattle.sheets.specs.Keeps.{Finished}
 use Rattle.sheets.specs.Sheets.{Listed, SheetWritten}
 use Rattle.sheets.proofs.Keeps.{sheet-accepted}
 use Rattle.builder.specs.Stages.{Delaunay}
-use Rattle.delaunay.specs.Sheets.{shortRoom, asked, Sheet, Triangulated}
+use Rattle.delaunay.specs.Sheets.{asked, Sheet, Triangulated}
 
 module _ (ps : List ℤ) (out w : List ℕ) (e : asked ps (length out) (length w) ≡ yes) where
   abbrev n : ℕ

@@ -1,20 +1,15 @@
 -- What the sheet of the points alone promises. Definitions only.
-use mathlib.Core.Bool.{Bool, false, _||_}
+use mathlib.Core.Bool.{false}
 use mathlib.Core.List.{List, []}
 use mathlib.Core.Path.{_≡_}
-use Prim.Native.Nat.{ℕ, _+_, _-_, _*_, _<_, _≤_}
-use lib.Dec.{ltb}
+use Prim.Native.Nat.{ℕ, _+_, _*_, _<_, _≤_}
 use lib.IntN.{ℤ}
 use lib.ListN.{length, getD, take}
 use Rattle.tables.specs.Answers.{Paper, yes}
 use Rattle.tables.specs.Data.{pointCount, point, base}
-use Rattle.tables.specs.Refusals.{rows, shortWork}
+use Rattle.tables.specs.Refusals.{rows, shortRoom}
 use Rattle.tables.specs.Verdicts.{verdict}
 use Rattle.nets.specs.Building.{onRim}
-
--- row 3: an output shorter than 3(2n - 5), or a working area shorter than 64n
-abbrev pub shortRoom : ℕ → ℕ → ℕ → Bool
-shortRoom n out work = ltb out (3 * (2 * n - 5)) || shortWork n work
 
 -- rows 1 to 7, with no pairs
 abbrev pub asked : List ℤ → ℕ → ℕ → Paper

@@ -2,7 +2,8 @@
 ghost use mathlib.Core.Path.{_≡_};
 ghost use Prim.Native.Nat.{_-_, _*_, _≤_};
 ghost use lib.Dec.{ltb};
-ghost use Rattle.delaunay.specs.Sheets.{shortRoom, Triangulated};
+ghost use Rattle.tables.specs.Refusals.{shortRoom};
+ghost use Rattle.delaunay.specs.Sheets.{Triangulated};
 use tables::Checked;
 
 // The output has less than 3(2n - 5) numbers. The divisions here and below keep every number small.

@@ -19,7 +19,7 @@ use Rattle.nets.proofs.Flip.{two-slots}
 use Rattle.nets.proofs.FlipTile.{tile-apart, far, flip-tile}
 use Rattle.nets.proofs.Keeps.{kept-same, kept-then, kept-set, flip-kept}
 use Rattle.nets.proofs.Memory.{net-eq}
-use Rattle.nets.proofs.Places.{net-set, flip-net}
+use Rattle.nets.proofs.Places.{net-set, tiling-range, flip-net}
 use Rattle.nets.proofs.Suspects.{turn-falls}
 use Rattle.suspects.specs.Stack.{stack, Fresh, Suspects, Aside, Reborn}
 use Rattle.suspects.proofs.Stack.{stack-none, stack-length, stack-same, suspects-same, popped-low, popped-is, popped-fresh, popped-suspects}
@@ -56,18 +56,8 @@ module _ {ps : List ℤ} {count : ℕ} {w : List ℕ} (r : Ready ps count w) whe
   unfolding netOf
   ready-low h l = r .tiling .corners h l
 
-  ready-partners : (h : ℕ) → h < 3 * count → netOf w count .adj h ≤ 3 * count
-  unfolding netOf
-  ready-partners h l = go (netOf w count .adj h) refl
-    where
-      go : (a : ℕ) → netOf w count .adj h ≡ a → netOf w count .adj h ≤ 3 * count
-      go zero e = rw e (omega arith)
-      go (suc g) e = let z : g < 3 * count = r .tiling .linked .low h g l e in let y : suc g ≤ 3 * count = omega arith in rw e y
-
   pub ready-range : Figure ps → InRange count w
-  ready-range f =
-      let a = r .few in let b = r .room in let d = f .few in
-      record { corners = λ h l. let c = ready-low h l in omega arith; partners = ready-partners; room = omega arith; small = omega arith }
+  ready-range f = tiling-range (pointCount ps) w count (r .tiling) (omega arith) (r .room) (let a = r .few in omega arith) (f .few)
 
   ready-below : 16 * count + 16 ≤ 64 * pointCount ps
   ready-below = let a = r .few in omega arith
@@ -219,7 +209,7 @@ module _ {ps : List ℤ} {w₀ : List ℕ} {count many newest : ℕ} where
         flip-keeps : Kept (pointCount ps) w v
         flip-keeps =
             let a = ready-below (o .ready) in
-            rw i (flip-kept (pointCount ps) w count (omega arith) (ready-low (o .ready)) (ready-partners (o .ready)) h g hb gb)
+            rw i (flip-kept (pointCount ps) w count (omega arith) (ready-low (o .ready)) (ready-range (o .ready) fig .partners) h g hb gb)
 
         flip-is : netOf v count ≡ flip net h g
         flip-is = rw i (flip-net w count (ready-range (o .ready) fig) h g hb gb)

@@ -6,14 +6,15 @@ use mathlib.Core.Logic.{_⊎_, inl, inr}
 use mathlib.Core.Path.{_≡_, refl, sym, _∙_, subst}
 use Prim.Native.Nat.{ℕ, zero, suc, _+_, _*_, _-_, _/_, _<_, _≤_}
 use native.Mathlib.Omega.{arith}
-use lib.Dec.{T}
 use lib.IntN.{ℤ, pos, _+ℤ_, +ℤ-idl}
 use Rattle.algebra.proofs.Order.{not-zero}
 use Rattle.algebra.specs.Order.{Pos, NonNeg}
 use Rattle.algebra.specs.Sum.{sumTo}
 use Rattle.algebra.specs.Tests.{eqZ}
 use Rattle.plane.proofs.Orient.{thin-aba, thin-abb}
-use Rattle.plane.proofs.Sign.{eqZ-eq, eqZ-refl}
+use Rattle.plane.proofs.Test.{reads-eqZ}
+use Rattle.tables.proofs.Table.{T-true, not-T-false}
+use Rattle.tables.specs.Rules.{countTo}
 use Rattle.plane.specs.Base.{Side, s0, s1, s2, next, On}
 use Rattle.plane.specs.Determinants.{orient}
 use Rattle.plane.specs.Halfedges.{nxt}
@@ -103,18 +104,10 @@ module _ {P : ℕ → Pt ℤ} {B : Side → Pt ℤ} {k : ℕ} {rk : ℕ → ℕ}
 -- ---- points on the boundary of the base
 
 eqZ-yes : (a b : ℤ) → a ≡ b → eqZ a b ≡ true
-eqZ-yes a b e = by (eqZ a b) (subst (λ (x : ℤ). T (eqZ a x)) e (eqZ-refl a))
-  where
-    by : (t : Bool) → T t → t ≡ true
-    by true h = refl
-    by false h = absurd h
+eqZ-yes a b e = T-true (eqZ a b) (reads-eqZ a b .shows e)
 
 eqZ-no : (a b : ℤ) → ¬ (a ≡ b) → eqZ a b ≡ false
-eqZ-no a b n = by (eqZ a b) (λ t. n (eqZ-eq a b t))
-  where
-    by : (t : Bool) → ¬ T t → t ≡ false
-    by true h = absurd (h tt)
-    by false h = refl
+eqZ-no a b n = not-T-false (eqZ a b) (λ t. n (reads-eqZ a b .says t))
 
 one-of : (x y z : Bool) → (x ≡ true) ⊎ ((y ≡ true) ⊎ (z ≡ true)) → (x || y || z) ≡ true
 one-of true y z d = refl
@@ -139,11 +132,11 @@ rim-in B p d = rw (off s0, off s1, off s2)
     off i = eqZ-no (orient (B i) (B (next i)) p) (pos 0) (not-zero (d i))
 
 rim-step : (P : ℕ → Pt ℤ) (B : Side → Pt ℤ) (k : ℕ) (b : Bool) → onBoundary B (P k) ≡ b → onRim P B (k + 1) ≡ onRim P B k + cond b 1 0
-unfolding onRim
+unfolding onRim countTo
 rim-step P B k b i = let e : k + 1 ≡ suc k = omega arith in rw (e, i)
 
 rim-three : (P : ℕ → Pt ℤ) (B : Side → Pt ℤ) → OnBase B (P 0) → OnBase B (P 1) → OnBase B (P 2) → onRim P B 3 ≡ 3
-unfolding onRim
+unfolding onRim countTo
 rim-three P B x y z = rw (rim-on B (P 0) x, rim-on B (P 1) y, rim-on B (P 2) z)
 
 -- ---- all points

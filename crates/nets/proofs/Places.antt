@@ -6,12 +6,16 @@ use Prim.Native.Nat.{ℕ, zero, suc, _+_, _*_, _/_, _%_, _<_, _≤_}
 use native.Mathlib.Omega.{arith}
 use lib.ListN.{length, getD, set, length-set}
 use lib.Seq.{getD-set-other}
+use lib.IntN.{ℤ}
+use Rattle.plane.specs.Base.{Side}
 use Rattle.plane.specs.Halfedges.{nxt}
+use Rattle.plane.specs.Points.{Pt}
 use Rattle.nets.specs.Nets.{Net, prv, Linked}
 use Rattle.nets.specs.Slots.{Rec, write, grow}
 use Rattle.nets.specs.Moves.{Move, links, after}
 use Rattle.nets.specs.Steps.{flipMoves, flipA, flipB, flipRaw, flip, insideMoves, inA, inB, inC, insideRaw, inside, sideMoves, sideA, sideB, sideRaw, sideSplit, edgeMoves, edgeA, edgeB, edgeC, edgeE, edgeRaw, edgeSplit}
 use Rattle.nets.specs.Layout.{cell, netOf, tell, tells, putRec, flagCell, stackCell, rankCell, hintCell, hint, born, flipList, insideList, sideList, edgeList, InRange, Kept}
+use Rattle.nets.specs.Tilings.{Tiling}
 use Rattle.nets.proofs.Slot.{nxt-in, nxt-slot, nxt-slot2}
 use Rattle.nets.proofs.Surgery.{All}
 use Rattle.nets.proofs.Memory.{net-eq, put-length, net-put, net-tells, tells-length}
@@ -231,3 +235,18 @@ module _ (w : List ℕ) (T : ℕ) (i : InRange T w) where
         ∙ net-tells (m .adj) e4 (T + 2) (edgeMoves m h g)
         (fits e4 e4-length (prv h) (nxt-in (nxt h) T (nxt-in h T hb)), (fits e4 e4-length (nxt h) (nxt-in h T hb), (fits e4 e4-length (prv g) (nxt-in (nxt g) T (nxt-in g T gb)), (fits e4 e4-length (nxt g) (nxt-in g T gb), tt))))
         ∙ after-eq m (netOf e4 (T + 2)) (edgeRaw m h g p) (edgeMoves m h g) edge-raw
+
+-- ---- the numbers of a tiling are in range
+
+pub tiling-range : {P : ℕ → Pt ℤ} {B : Side → Pt ℤ} {k : ℕ} (n : ℕ) (w : List ℕ) (T : ℕ) → Tiling P B k (netOf w T) → k ≤ n → 64 * n ≤ length w → T ≤ 2 * n → n ≤ 4096 → InRange T w
+unfolding netOf
+tiling-range n w T v kn room few small = record {
+  corners = λ h b. (let l = v .corners h b in omega arith);
+  partners = λ h b. low (netOf w T .adj h) (λ g e. v .linked .low h g b e);
+  room = omega arith;
+  small = omega arith;
+}
+  where
+    low : (a : ℕ) → ((g : ℕ) → a ≡ suc g → g < 3 * T) → a ≤ 3 * T
+    low zero f = omega arith
+    low (suc g) f = let l = f g refl in omega arith

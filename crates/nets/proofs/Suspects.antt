@@ -19,7 +19,7 @@ use Rattle.plane.specs.Base.{Side}
 use Rattle.plane.specs.Determinants.{orient, incircle}
 use Rattle.plane.specs.Halfedges.{nxt}
 use Rattle.plane.specs.Points.{Pt}
-use Rattle.nets.specs.Flipping.{Wants, Lower, by-first, by-second, leave, reborn, Legal, done, stay, turn}
+use Rattle.nets.specs.Flipping.{Gains, Wants, Lower, by-first, by-second, leave, reborn, Legal, done, stay, turn}
 use Rattle.nets.specs.Moves.{Move, after}
 use Rattle.nets.specs.Nets.{Net, Linked, prv}
 use Rattle.nets.specs.Steps.{flip}
@@ -52,14 +52,11 @@ module _ {P : ℕ → Pt ℤ} {rk : ℕ → ℕ} {S : ℕ → ℕ → Type 0} {m
   wants-off x y b n k w = record {
     pair = sewn-back l s x y b n k (w .pair);
     free = sym (s .off-con x n) ∙ w .free;
-    gain = subst (λ (c : ℕ). Gain (m .org x) (m .org (nxt x)) (m .org (prv x)) c) (oy) (subst (λ (c : ℕ). Gain (m .org x) (m .org (nxt x)) c (r .org (prv y))) o2 (subst (λ (c : ℕ). Gain (m .org x) c (r .org (prv x)) (r .org (prv y))) o1 (subst (λ (c : ℕ). Gain c (r .org (nxt x)) (r .org (prv x)) (r .org (prv y))) o0 (w .gain))));
+    gain = subst (λ (c : ℕ). Gains P rk (m .org x) (m .org (nxt x)) (m .org (prv x)) c) (oy) (subst (λ (c : ℕ). Gains P rk (m .org x) (m .org (nxt x)) c (r .org (prv y))) o2 (subst (λ (c : ℕ). Gains P rk (m .org x) c (r .org (prv x)) (r .org (prv y))) o1 (subst (λ (c : ℕ). Gains P rk c (r .org (nxt x)) (r .org (prv x)) (r .org (prv y))) o0 (w .gain))));
     ccw-t = pos-by (ap₃ (m .org x) (r .org x) (m .org (prv y)) (r .org (prv y)) (m .org (prv x)) (r .org (prv x)) (sym o0) (sym oy) (sym o2)) (w .ccw-t);
     ccw-n = pos-by (ap₃ (m .org (prv y)) (r .org (prv y)) (m .org (nxt x)) (r .org (nxt x)) (m .org (prv x)) (r .org (prv x)) (sym oy) (sym o1) (sym o2)) (w .ccw-n);
   }
     where
-      Gain : ℕ → ℕ → ℕ → ℕ → Type 0
-      Gain a b c d = Pos (incircle (P a) (P b) (P c) (P d)) ⊎ ((incircle (P a) (P b) (P c) (P d) ≡ pos 0) × Lower rk c d a b)
-
       o0 : r .org x ≡ m .org x
       o0 = s .off-org x n
 
@@ -106,21 +103,18 @@ pub wants-sym : {P : ℕ → Pt ℤ} {rk : ℕ → ℕ} {S : ℕ → ℕ → Typ
 wants-sym {P} {rk} {S} {m} l h g b w = record {
   pair = l .back h g b (w .pair);
   free = l .mark h g b (w .pair) ∙ w .free;
-  gain = subst (λ (x : ℕ). Gain x (m .org (nxt g)) (m .org (prv g)) (m .org (prv h))) (sym from) (subst (λ (x : ℕ). Gain (m .org (nxt h)) x (m .org (prv g)) (m .org (prv h))) (sym onto) (turn (w .gain)));
+  gain = subst (λ (x : ℕ). Gains P rk x (m .org (nxt g)) (m .org (prv g)) (m .org (prv h))) (sym from) (subst (λ (x : ℕ). Gains P rk (m .org (nxt h)) x (m .org (prv g)) (m .org (prv h))) (sym onto) (turn (w .gain)));
   ccw-t = pos-by (ap (λ (x : ℕ). orient (P x) (P (m .org (prv h))) (P (m .org (prv g)))) from ∙ sym (orient-cyc (P (m .org (prv g))) (P (m .org (nxt h))) (P (m .org (prv h))))) (w .ccw-n);
   ccw-n = pos-by (ap (λ (x : ℕ). orient (P (m .org (prv h))) (P x) (P (m .org (prv g)))) onto ∙ orient-cyc (P (m .org (prv h))) (P (m .org h)) (P (m .org (prv g)))) (w .ccw-t);
 }
   where
-    Gain : ℕ → ℕ → ℕ → ℕ → Type 0
-    Gain a b c d = Pos (incircle (P a) (P b) (P c) (P d)) ⊎ ((incircle (P a) (P b) (P c) (P d) ≡ pos 0) × Lower rk c d a b)
-
     from : m .org g ≡ m .org (nxt h)
     from = l .from h g b (w .pair)
 
     onto : m .org (nxt g) ≡ m .org h
     onto = to l h g b (w .pair)
 
-    turn : Gain (m .org h) (m .org (nxt h)) (m .org (prv h)) (m .org (prv g)) → Gain (m .org (nxt h)) (m .org h) (m .org (prv g)) (m .org (prv h))
+    turn : Gains P rk (m .org h) (m .org (nxt h)) (m .org (prv h)) (m .org (prv g)) → Gains P rk (m .org (nxt h)) (m .org h) (m .org (prv g)) (m .org (prv h))
     turn (inl p) = inl (pos-by (incircle-flip (P (m .org (nxt h))) (P (m .org h)) (P (m .org (prv g))) (P (m .org (prv h)))) p)
     turn (inr p) = inr (incircle-flip (P (m .org (nxt h))) (P (m .org h)) (P (m .org (prv g))) (P (m .org (prv h))) ∙ p .0, lower-sym rk (m .org (prv h)) (m .org (prv g)) (m .org h) (m .org (nxt h)) (p .1))
 

@@ -19,7 +19,7 @@ use Rattle.nets.specs.Tilings.{Tiling}
 use Rattle.nets.proofs.FlipTile.{tile-apart, far}
 use Rattle.nets.proofs.Flip.{same-slot}
 use Rattle.nets.proofs.Keeps.{kept-set, kept-then, kept-same, inside-kept, side-kept, edge-kept}
-use Rattle.nets.proofs.Places.{net-set, inside-net, side-net, edge-net}
+use Rattle.nets.proofs.Places.{net-set, tiling-range, inside-net, side-net, edge-net}
 use Rattle.suspects.specs.Stack.{stack, Fresh, Suspects, pushed}
 use Rattle.suspects.proofs.Stack.{stack-none, pushed-length, pushed-stack, pushed-suspects}
 use Rattle.splitting.specs.Splits.{insidePushed, sidePushed, edgePushed, Tiled, Grown}
@@ -60,24 +60,8 @@ module _ {ps : List ℤ} {k : ℕ} {w : List ℕ} {T : ℕ} (d : Tiled ps k w T)
   abbrev m : Net
   m = netOf w T
 
-  partner-low : (a : ℕ) → ((g : ℕ) → a ≡ suc g → g < 3 * T) → a ≤ 3 * T
-  partner-low zero f = omega arith
-  partner-low (suc g) f = let l = f g refl in omega arith
-
   pub in-range : InRange T w
-  unfolding netOf
-  in-range = record {
-    corners = λ h b. (let l = d .tile .corners h (low h b) in let k = d .low in let r = d .room in omega arith);
-    partners = λ h b. partner-low (m .adj h) (λ g e. at-tris (d .tile .linked .low h g (low h b) e));
-    room = let f = d .few in let k = d .low in let r = d .room in omega arith;
-    small = let f = d .few in let k = d .low in let r = d .figure .few in omega arith;
-  }
-    where
-      low : (h : ℕ) → h < 3 * T → h < 3 * m .tris
-      low h b = b
-
-      at-tris : {g : ℕ} → g < 3 * m .tris → g < 3 * T
-      at-tris b = b
+  in-range = tiling-range n w T (d .tile) (d .low) (d .room) (let f = d .few in let k = d .low in omega arith) (d .figure .few)
 
   pub numbered : (h : ℕ) → h < 3 * T → netOf w T .org h < n
   unfolding netOf

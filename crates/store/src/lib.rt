@@ -59,28 +59,12 @@ pub fn next(h: usize) -> usize
     if h % 3 == 2 { h - 2 } else { h + 1 }
 }
 
-// The corner that half-edge h leaves.
-pub fn corner(work: &[u32], h: usize) -> u32
-    requires { ⌜ (h < 24576) × (16 * (h / 3) + 16 ≤ length (now work)) ⌝ }
-    ensures { λ r. ⌜ r ≡ getD (now (work .entry)) (cell 0 h) 0 ⌝ }
-{
-    work[16 * (h / 3) + h % 3]
-}
-
 // The partner of half-edge h and 1, or 0 for none.
 pub fn partner(work: &[u32], h: usize) -> u32
     requires { ⌜ (h < 24576) × (16 * (h / 3) + 16 ≤ length (now work)) ⌝ }
     ensures { λ r. ⌜ r ≡ getD (now (work .entry)) (cell 3 h) 0 ⌝ }
 {
     work[16 * (h / 3) + 3 + h % 3]
-}
-
-// The mark of half-edge h.
-pub fn mark(work: &[u32], h: usize) -> u32
-    requires { ⌜ (h < 24576) × (16 * (h / 3) + 16 ≤ length (now work)) ⌝ }
-    ensures { λ r. ⌜ r ≡ getD (now (work .entry)) (cell 6 h) 0 ⌝ }
-{
-    work[16 * (h / 3) + 6 + h % 3]
 }
 
 // ---- writing

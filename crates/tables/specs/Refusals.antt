@@ -1,7 +1,7 @@
 -- The table of refusals, rows 1 to 10: each row's test, "given exactly when", in the table's order. Definitions only.
 use mathlib.Core.Bool.{Bool, true, false, cond, _&&_, _||_, not}
 use mathlib.Core.List.{List}
-use Prim.Native.Nat.{ℕ, _+_, _*_, _%_}
+use Prim.Native.Nat.{ℕ, _+_, _-_, _*_, _%_}
 use lib.Dec.{leb, ltb, eqb}
 use lib.IntN.{ℤ, pos, negℤ}
 use lib.ListN.{length}
@@ -21,6 +21,9 @@ badCounts n m = ltb n 3 || ltb 4096 n || ltb 12288 m
 -- 3: a working area shorter than 64n; for the cutter also an output shorter than 3(2n - 5)
 abbrev pub shortWork : ℕ → ℕ → Bool
 shortWork n work = ltb work (64 * n)
+
+abbrev pub shortRoom : ℕ → ℕ → ℕ → Bool
+shortRoom n out work = ltb out (3 * (2 * n - 5)) || shortWork n work
 
 -- 4: a coordinate below -8,192 or above 8,192
 abbrev pub far : List ℤ → ℕ → Bool

@@ -8,7 +8,7 @@ use lib.ListN.{length}
 use Rattle.tables.specs.Answers.{yes, ofRefusal, ofChecked}
 use Rattle.tables.specs.Data.{pointCount}
 use Rattle.tables.specs.Refusals.{rows}
-use Rattle.delaunay.specs.Sheets.{asked, shortRoom}
+use Rattle.delaunay.specs.Sheets.{asked}
 use Rattle.delaunay.proofs.Sheets.{is-figure, work-room, out-room, few, is-sheet, refusal-not-yes}
 use Rattle.delaunay.proofs.triangulate.Statement.{statement}
 use Rattle.delaunay.proofs.triangulate.Tie as tie

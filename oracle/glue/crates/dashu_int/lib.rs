@@ -168,27 +168,21 @@ impl Signed for IBig {
     }
 }
 
-impl ToPrimitive for IBig {
-    #[inline]
-    fn to_i64(&self) -> Option<i64> {
-        self.0.try_into().ok()
-    }
-    #[inline]
-    fn to_u64(&self) -> Option<u64> {
-        self.0.try_into().ok()
-    }
+macro_rules! to_primitive {
+    ($($number:ty),*) => {
+        $(impl ToPrimitive for $number {
+            #[inline]
+            fn to_i64(&self) -> Option<i64> {
+                self.0.try_into().ok()
+            }
+            #[inline]
+            fn to_u64(&self) -> Option<u64> {
+                self.0.try_into().ok()
+            }
+        })*
+    };
 }
-
-impl ToPrimitive for UBig {
-    #[inline]
-    fn to_i64(&self) -> Option<i64> {
-        self.0.try_into().ok()
-    }
-    #[inline]
-    fn to_u64(&self) -> Option<u64> {
-        self.0.try_into().ok()
-    }
-}
+to_primitive!(IBig, UBig);
 
 pub mod ops {
     use super::{IBig, UBig};
