@@ -22,7 +22,7 @@ use Rattle.tables.proofs.Rules.{Rule1, reads-1}
 use Rattle.edges.specs.Index.{Corners, Indexed, Rest, lastOf}
 use Rattle.edges.proofs.Cleared.{cleared-length, cleared-zero, cleared-rest, cleared-over}
 use Rattle.list_rules.proofs.Once.{not-false}
-use Rattle.checker.specs.Parts.{early, broken, rules12, rules345, rules678}
+use Rattle.checker.specs.Parts.{broken, rules12, rules345, rules678}
 
 -- ---- what rule 1 tells of the list
 module _ (ps : List ℤ) (xs : List ℕ) (whole : length xs % 3 ≡ 0) (r : rule1 ps xs ≡ true) where
@@ -83,64 +83,6 @@ both-hold ps xs a z e = go (rule1 ps xs) (rule2 xs) (sym (ap broken z) ∙ e)
     go true true q = (refl, refl)
     go true false q = absurd (let k : _≡_ {A = ℕ} 0 1 = cc in omega arith)
     go false c q = absurd (let k : _≡_ {A = ℕ} 0 1 = cc in omega arith)
-
--- ---- the refusals
-number : Paper → ℕ
-number yes = 0
-number (refuses k i) = k
-number (breaks k) = 0
-
-early-number : (r : Refusal) → early r ≡ leb (number (ofRefusal r)) 3
-unfolding number
-early-number OddLength = refl
-early-number Counts = refl
-early-number Room = refl
-early-number (FarPoint i) = refl
-early-number NoArea = refl
-early-number (OutsidePoint i) = refl
-early-number (EqualPoint i) = refl
-early-number (BadPair k) = refl
-early-number (BlockedPair k) = refl
-early-number (CrossingPair k) = refl
-early-number (StuckPair k) = refl
-
--- what a refusal leaves in the working area
-pub left-early : (r : Refusal) (n : ℕ) (w : List ℕ) → leftWork (ofRefusal r) n w ≡ cond (early r) w (cleared (64 * n) w)
-left-early OddLength n w = refl
-left-early Counts n w = refl
-left-early Room n w = refl
-left-early (FarPoint i) n w = refl
-left-early NoArea n w = refl
-left-early (OutsidePoint i) n w = refl
-left-early (EqualPoint i) n w = refl
-left-early (BadPair k) n w = refl
-left-early (BlockedPair k) n w = refl
-left-early (CrossingPair k) n w = refl
-left-early (StuckPair k) n w = refl
-
--- a refusal after the third: the room was long enough
-pub late-room : (odd short : Bool) (ps : List ℤ) (qs : List ℕ) (r : Refusal) → early r ≡ false → ofRefusal r ≡ rows odd short ps qs → short ≡ false
-unfolding number
-late-room odd false ps qs r e h = refl
-late-room odd true ps qs r e h = absurd (true≢false (sym (early-number r ∙ ap (λ (p : Paper). leb (number p) 3) h ∙ go (not (eqb (length ps % 2) 0) || not (eqb (length qs % 2) 0) || odd) (badCounts (pointCount ps) (pairCount qs))) ∙ e))
-  where
-    go : (a b : Bool) → leb (number (row 1 a (row 2 b (row 3 true (rows4to10 ps qs))))) 3 ≡ true
-    go true b = refl
-    go false true = refl
-    go false false = refl
-
--- the caller's test of the room is the table's
-pub short-is : (n w : ℕ) → ltb (w / 64) n ≡ shortWork n w
-short-is n w = by-test (ltb w (64 * n)) (λ t. let l = ltb-true w (64 * n) t in less n w l ∙ sym t) (λ t. let l = ltb-false w (64 * n) t in more n w l ∙ sym t)
-  where
-    less : (n w : ℕ) → w < 64 * n → ltb (w / 64) n ≡ true
-    less n w l = lt-ltb (w / 64) n (omega arith)
-
-    more : (n w : ℕ) → 64 * n ≤ w → ltb (w / 64) n ≡ false
-    more n w l = le-ltb (w / 64) n (omega arith)
-
-pub room-is : (n w : ℕ) → ltb (w / 64) n ≡ false → 64 * n ≤ w
-room-is n w e = ltb-false w (64 * n) (sym (short-is n w) ∙ e)
 
 -- no refusal, and the verdict is the rules'
 pub verdict-rules : (ps : List ℤ) (qs xs : List ℕ) (work : ℕ) → yes ≡ refusals ps qs xs work → verdict ps qs xs work ≡ rules ps qs xs

@@ -8,24 +8,8 @@ use lib.ListN.{length, getD}
 use Rattle.tables.specs.Answers.{Paper, yes, breaks, rule}
 use Rattle.tables.specs.Data.{pointCount}
 use Rattle.tables.specs.Rules.{rule1, rule2, rule3, rule4, rule5, rule6, rule7, rule8}
-use Rattle.tables.specs.declared.Refusal.{Refusal}
-use Rattle.tables.specs.declared.Refusal.the-variants.{OddLength, Counts, Room as NoRoom, FarPoint, NoArea, OutsidePoint, EqualPoint, BadPair, BlockedPair, CrossingPair, StuckPair}
 use Rattle.segments.specs.Near.{Near}
 use Rattle.list_rules.specs.Listed.{Listed, Room, Blank, Ends}
-
--- refusals 1 to 3
-abbrev pub early : Refusal → Bool
-early OddLength = true
-early Counts = true
-early NoRoom = true
-early (FarPoint i) = false
-early NoArea = false
-early (OutsidePoint i) = false
-early (EqualPoint i) = false
-early (BadPair k) = false
-early (BlockedPair k) = false
-early (CrossingPair k) = false
-early (StuckPair k) = false
 
 -- the number of a broken rule, or 0
 abbrev pub broken : ℕ → Paper

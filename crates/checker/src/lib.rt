@@ -7,36 +7,16 @@ ghost use Rattle.tables.specs.Data.{pointCount};
 ghost use Rattle.tables.specs.Verdicts.{verdict, rules, leftWork};
 ghost use Rattle.edges.specs.Index.{Rest};
 ghost use Rattle.list_rules.specs.Listed.{Listed, Ends};
-ghost use Rattle.checker.specs.Parts.{early, broken, Sound, Zero, rules345, rules678, Indexing, Lined};
+ghost use Rattle.checker.specs.Parts.{broken, Sound, Zero, rules345, rules678, Indexing, Lined};
 use tables::Checked;
-use tables::Refusal;
 use tables::Verdict;
-
-// Refusals 1 to 3, which leave the working area alone.
-fn is_early(r: Refusal) -> bool
-    ensures { λ e. ⌜ e ≡ early r ⌝ }
-{
-    match r {
-        Refusal::OddLength => true,
-        Refusal::Counts => true,
-        Refusal::Room => true,
-        Refusal::FarPoint(_) => false,
-        Refusal::NoArea => false,
-        Refusal::OutsidePoint(_) => false,
-        Refusal::EqualPoint(_) => false,
-        Refusal::BadPair(_) => false,
-        Refusal::BlockedPair(_) => false,
-        Refusal::CrossingPair(_) => false,
-        Refusal::StuckPair(_) => false,
-    }
-}
 
 // Rules 1 and 2, and the index of the edges: the broken rule, or 0.
 fn shape(points: &[i32], list: &[u32], work: &mut [u32]) -> u32
     requires { ⌜ Sound (now points) (now list) (now work) × Zero (now points) (now work) ⌝ }
     ensures { λ r. ⌜ Indexing (now (points .entry)) (now (list .entry)) (now (work .entry)) (now (work .exit)) r ⌝ }
 {
-    if !place_rules::triples_proper(points, list) {
+    if !triple_rules::triples_proper(points, list) {
         return 1;
     }
     let n = points.len() / 2;
@@ -53,7 +33,7 @@ fn cover(points: &[i32], list: &[u32], work: &[u32]) -> u32
     requires { ⌜ Sound (now points) (now list) (now work) × Listed (pointCount (now points)) (now list) (now work) × (length (now list) ≤ 24561) ⌝ }
     ensures { λ r. ⌜ broken r ≡ rules345 (now (points .entry)) (now (list .entry)) ⌝ }
 {
-    let cw = checks::is_clockwise(points);
+    let cw = base_checks::is_clockwise(points);
     if !edge_rules::edges_met(points, list, work, cw) {
         return 3;
     }
@@ -114,7 +94,7 @@ pub fn check(points: &[i32], pairs: &[u32], list: &[u32], work: &mut [u32]) -> V
     let first = checks::rows(points, pairs, odd, short);
     match first {
         Checked::Refused(r) => {
-            if is_early(r) {
+            if rooms::is_early(r) {
                 return Verdict::Refused(r);
             }
             edges::clear(work, 64 * n);

@@ -75,7 +75,7 @@ fn turns(points: &[i32], list: &[u32], h: usize, g: usize) -> bool
 {
     let a = list[h] as usize;
     let b = head(list, h) as usize;
-    place_rules::would_flip(points, a, b, apex(list, h), apex(list, g))
+    flip_rules::would_flip(points, a, b, apex(list, h), apex(list, g))
 }
 
 // Edge h is marked or has no reverse, or step 3 would not flip it.

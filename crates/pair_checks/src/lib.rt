@@ -54,7 +54,7 @@ fn is_blocked(points: &[i32], pairs: &[u32], k: usize) -> bool
     let b = pairs[2 * k + 1] as usize;
     let n = points.len() / 2;
     for i in 0..n {
-        if segments::in_segment(points, a, b, i) {
+        if crossings::in_segment(points, a, b, i) {
             return true;
         }
     }
@@ -89,7 +89,7 @@ fn is_crossing(points: &[i32], pairs: &[u32], k: usize) -> bool
     for j in 0..k {
         let a = pairs[2 * j] as usize;
         let b = pairs[2 * j + 1] as usize;
-        if segments::crosses(points, a, b, c, d) {
+        if crossings::crosses(points, a, b, c, d) {
             return true;
         }
     }

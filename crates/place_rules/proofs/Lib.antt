@@ -1,3 +1,2 @@
 mod Base
 mod Areas
-mod Step3

@@ -1,17 +1,17 @@
-// The calls of crate signs for programs in other languages, by numbers alone: the static library that the comparison with the original
-// links.
+// The calls of crates signs and float_signs for programs in other languages, by numbers alone: the static library that the comparison
+// with the original links.
 ghost use mathlib.Core.Path.{_≡_};
 ghost use Rattle.plane.specs.Points.{at};
 ghost use Rattle.signs.specs.Signs.{signF, number};
 ghost use Rattle.signs.specs.Answers.{limit, orientAnswer, circleAnswer, wholeNumber};
-ghost use Rattle.signs.specs.Intake.{intakeOf, intakeNumber, intakeLeaves};
-ghost use Rattle.signs.specs.Parts.{decompOf, isFinite, mantissaOr, exponentOr};
-ghost use Rattle.signs.specs.Filter.{vec, orientFilter, circleF, filterNumber};
-use signs::Dyadic;
-use signs::Filtered;
-use signs::Intake;
+ghost use Rattle.float_signs.specs.Intake.{intakeOf, intakeNumber, intakeLeaves};
+ghost use Rattle.float_signs.specs.Parts.{decompOf, isFinite, mantissaOr, exponentOr};
+ghost use Rattle.float_signs.specs.Filter.{vec, orientFilter, circleF, filterNumber};
+use float_signs::Dyadic;
+use float_signs::Filtered;
+use float_signs::Intake;
+use float_signs::Vec2;
 use signs::Sign;
-use signs::Vec2;
 use signs::WholeSign;
 
 // -1, 0 or 1
@@ -61,7 +61,7 @@ pub extern "C" fn signs_circle(
 pub extern "C" fn signs_take_in(v: f64, whole: &mut i32) -> i32
     ensures { λ r. ⌜ (r ≡ intakeNumber (intakeOf v)) × (now (whole .exit) ≡ intakeLeaves (intakeOf v) (now (whole .entry))) ⌝ }
 {
-    let answer = signs::take_in(v);
+    let answer = float_signs::take_in(v);
     match answer {
         Intake::Whole(z) => {
             *whole = z;
@@ -78,7 +78,7 @@ pub extern "C" fn signs_take_in(v: f64, whole: &mut i32) -> i32
 pub extern "C" fn signs_decomp(v: f64, m: &mut i64, e: &mut i32) -> bool
     ensures { λ r. ⌜ (r ≡ isFinite (decompOf v)) × (now (m .exit) ≡ mantissaOr (decompOf v) (now (m .entry))) × (now (e .exit) ≡ exponentOr (decompOf v) (now (e .entry))) ⌝ }
 {
-    let answer = signs::decomp(v);
+    let answer = float_signs::decomp(v);
     match answer {
         Dyadic::Parts(mantissa, exponent) => {
             *m = mantissa;
@@ -97,7 +97,7 @@ pub extern "C" fn signs_orient2d_filter(ax: f64, ay: f64, bx: f64, by: f64, cx: 
     let a = Vec2 { x: ax, y: ay };
     let b = Vec2 { x: bx, y: by };
     let c = Vec2 { x: cx, y: cy };
-    let answer = signs::orient2d_filter(a, b, c);
+    let answer = float_signs::orient2d_filter(a, b, c);
     match answer {
         Filtered::Sure(s) => s.as_i32(),
         Filtered::Unsure => 2,
@@ -121,5 +121,5 @@ pub extern "C" fn signs_incircle_det(
     let b = Vec2 { x: bx, y: by };
     let c = Vec2 { x: cx, y: cy };
     let d = Vec2 { x: dx, y: dy };
-    signs::incircle_det(a, b, c, d)
+    float_signs::incircle_det(a, b, c, d)
 }

@@ -20,7 +20,7 @@ fn split_interior(work: &mut [u32], count: usize, t: usize, p: usize)
     requires { ⌜ (t < count) × (p < 4096) × (16 * p + 16 ≤ length (now work)) × (16 * (count + 2) ≤ length (now work)) × (count + 2 ≤ 8192) × (48 ≤ length (now work)) ⌝ }
     ensures { λ _. ⌜ now (work .exit) ≡ insidePushed (now (work .entry)) count t p ⌝ }
 {
-    steps::split_interior(work, count, t, p as u32);
+    splits::split_interior(work, count, t, p as u32);
     suspects::push(work, 0, t);
     suspects::push(work, 1, count);
     suspects::push(work, 2, count + 1);
@@ -31,7 +31,7 @@ fn split_side(work: &mut [u32], count: usize, h: usize, p: usize)
     requires { ⌜ (h < 3 * count) × (p < 4096) × (16 * p + 16 ≤ length (now work)) × (16 * (count + 1) ≤ length (now work)) × (count + 1 ≤ 8192) × (48 ≤ length (now work)) ⌝ }
     ensures { λ _. ⌜ now (work .exit) ≡ sidePushed (now (work .entry)) count h p ⌝ }
 {
-    steps::split_side(work, count, h, p as u32);
+    splits::split_side(work, count, h, p as u32);
     suspects::push(work, 0, h / 3);
     suspects::push(work, 1, count);
 }
@@ -41,7 +41,7 @@ fn split_both(work: &mut [u32], count: usize, h: usize, g: usize, p: usize)
     requires { ⌜ (h < 3 * count) × (g < 3 * count) × (p < 4096) × (16 * p + 16 ≤ length (now work)) × (16 * (count + 2) ≤ length (now work)) × (count + 2 ≤ 8192) × (64 ≤ length (now work)) ⌝ }
     ensures { λ _. ⌜ now (work .exit) ≡ edgePushed (now (work .entry)) count h g p ⌝ }
 {
-    steps::split_edge(work, count, h, g, p as u32);
+    edge_splits::split_edge(work, count, h, g, p as u32);
     suspects::push(work, 0, h / 3);
     suspects::push(work, 1, count);
     suspects::push(work, 2, g / 3);

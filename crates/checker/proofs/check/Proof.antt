@@ -12,8 +12,10 @@ use Rattle.tables.specs.Refusals.{rows}
 use Rattle.tables.specs.Verdicts.{refusals, verdict, rules, leftWork, cleared}
 use Rattle.tables.specs.declared.Refusal.{Refusal}
 use Rattle.tables.proofs.Table.{Silent, silent, points-least, points-most, coordinates, pairs-length, end-a, end-b, not-odd}
-use Rattle.checker.specs.Parts.{early, Sound}
-use Rattle.checker.proofs.Parts.{left-early, late-room, short-is, room-is, verdict-rules, verdict-refusal, rules-leave, cleared-size, cleared-zeros, cleared-thrice, ends-of, whole-of}
+use Rattle.rooms.specs.Early.{early}
+use Rattle.rooms.proofs.Rooms.{left-early, late-room, short-is, room-is}
+use Rattle.checker.specs.Parts.{Sound}
+use Rattle.checker.proofs.Parts.{verdict-rules, verdict-refusal, rules-leave, cleared-size, cleared-zeros, cleared-thrice, ends-of, whole-of}
 use Rattle.checker.proofs.check.Statement.{statement}
 use Rattle.checker.proofs.check.Tie as tie
 

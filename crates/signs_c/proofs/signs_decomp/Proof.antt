@@ -4,8 +4,8 @@ use lib.IntN.{ℤ}
 use mir.Syntax.{w32, w64}
 use mir.Facts.{toZ-ofZ}
 use mir.Val.{SFits}
-use Rattle.signs.specs.Parts.{isFinite, mantissaOr, exponentOr}
-use Rattle.signs.specs.declared.Dyadic.{Dyadic}
+use Rattle.float_signs.specs.Parts.{isFinite, mantissaOr, exponentOr}
+use Rattle.float_signs.specs.declared.Dyadic.{Dyadic}
 use Rattle.signs_c.proofs.signs_decomp.Statement.{statement}
 use Rattle.signs_c.proofs.signs_decomp.Tie as tie
 

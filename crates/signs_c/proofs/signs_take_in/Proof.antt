@@ -4,8 +4,8 @@ use lib.IntN.{ℤ}
 use mir.Syntax.{w32}
 use mir.Facts.{toZ-ofZ}
 use mir.Val.{SFits}
-use Rattle.signs.specs.Intake.{intakeNumber, intakeLeaves}
-use Rattle.signs.specs.declared.Intake.{Intake}
+use Rattle.float_signs.specs.Intake.{intakeNumber, intakeLeaves}
+use Rattle.float_signs.specs.declared.Intake.{Intake}
 use Rattle.signs_c.proofs.signs_take_in.Statement.{statement}
 use Rattle.signs_c.proofs.signs_take_in.Tie as tie
 

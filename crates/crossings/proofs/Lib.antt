@@ -1,0 +1,4 @@
+pub mod Ranges
+pub mod Apart
+mod Inside
+mod Ends

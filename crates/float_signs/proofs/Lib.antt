@@ -1,0 +1,3 @@
+mod Coordinate
+mod Mantissa
+mod Filtering

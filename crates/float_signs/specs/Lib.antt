@@ -1,0 +1,3 @@
+pub mod Intake
+pub mod Parts
+pub mod Filter
