@@ -1,3 +1,4 @@
 pub mod To
 pub mod Corners
 pub mod From
+pub mod Suspects

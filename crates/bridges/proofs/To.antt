@@ -14,10 +14,11 @@ use Rattle.plane.specs.Points.{Pt}
 use Rattle.nets.proofs.Net.{to}
 use Rattle.nets.specs.Building.{onSide}
 use Rattle.nets.specs.Nets.{Net, dst}
-use Rattle.nets.specs.Tilings.{Tiling}
+use Rattle.nets.specs.Tilings.{Tiling, Marked}
 use Rattle.cavities.proofs.Tiles.{area-rim}
 use Rattle.cavities.specs.Nets.{Good}
 use Rattle.cavities.specs.Tilings.{AlongP, Whole}
+use Rattle.cavities.specs.Traces.{Only}
 use Rattle.bridges.specs.Images.{hasMate, mateOf, sideOf, image, Reads}
 use Rattle.bridges.specs.Bridges.{Ready, ToCavity, ToBegun}
 
@@ -65,6 +66,11 @@ module _ (P : ℕ → Pt ℤ) (B : Side → Pt ℤ) (m : Net) where
     mated = λ h l e. has-yes (m .adj h) e;
     bare = λ h l e. has-no (m .adj h) e;
   }
+
+  -- the marked edges of the image are those of m
+  pub image-only : Only (Marked m) (image P B m)
+  unfolding image
+  image-only h e z = (h, ltb-true h (3 * m .tris) e, refl, refl, z)
 
   module _ (k : ℕ) (v : Tiling P B k m) where
     image-good : Good (AlongP P B) (image P B m)

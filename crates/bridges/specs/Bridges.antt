@@ -9,11 +9,12 @@ use Rattle.plane.specs.Points.{Pt}
 use Rattle.nets.specs.Nets.{Net, dst}
 use Rattle.nets.specs.Tilings.{Tiling, Has, Present, Marked}
 use Rattle.cavities.specs.Corridors.{Figure}
-use Rattle.cavities.specs.Fillings.{Gaps}
+use Rattle.cavities.specs.Fillings.{Slots, Gaps}
 use Rattle.cavities.specs.Nets.{Net as Model, Dead, Good, Inv}
 use Rattle.cavities.specs.Recovered.{Begun, Recovered}
 use Rattle.cavities.specs.Recovery.{Recovery}
 use Rattle.cavities.specs.Tilings.{AlongP, CcwP, world, Whole}
+use Rattle.cavities.specs.Traces.{Traced}
 use Rattle.bridges.specs.Images.{image, Reads}
 
 -- ---- to the model
@@ -61,27 +62,45 @@ ToBegun =
 
 -- ---- from the model
 
--- What a recovery of the line from a to b makes of the net m: m' tiles the base by as many triangles, every corner of m is a corner of it,
--- so that all points are corners still where they were, every marked edge of m is a marked edge of it, and the edge from b to a is there.
-pub record Taken (P : ℕ → Pt ℤ) (B : Side → Pt ℤ) (k a b : ℕ) (m m' : Net) : Type 0 where
+-- What stays of half-edge h, where h is of no triangle that is crossed; the crossed slots are the n first ones of slot. Its corners and its
+-- mark are those that it had. It has a partner where it had one, and where one of the two partners is of no crossed triangle, it is the
+-- other one, too.
+pub record Beside (slot : ℕ → ℕ) (n : ℕ) (m m' : Net) (h : ℕ) : Type 0 where
+  pub org : m' .org h ≡ m .org h
+  pub dst : dst m' h ≡ dst m h
+  pub con : m' .con h ≡ m .con h
+  pub bare : m .adj h ≡ 0 → m' .adj h ≡ 0
+  pub was-bare : m' .adj h ≡ 0 → m .adj h ≡ 0
+  pub pair : (g : ℕ) → ¬ Slots slot 0 n g → m .adj h ≡ suc g → m' .adj h ≡ suc g
+  pub was-pair : (g : ℕ) → ¬ Slots slot 0 n g → m' .adj h ≡ suc g → m .adj h ≡ suc g
+
+-- What a recovery of the line from a to b makes of the net m, where it crosses the slots slot 0 to slot n: m' tiles the base by as many
+-- triangles, every corner of m is a corner of it, so that all points are corners still where they were, the marked edges of m and of m' are
+-- the same, and the edge from b to a is there. Nothing changes outside of the crossed slots but a partner that is in one. The edge from b to
+-- a is edge 0 of the last crossed slot.
+pub record Taken (P : ℕ → Pt ℤ) (B : Side → Pt ℤ) (k a b : ℕ) (slot : ℕ → ℕ) (n : ℕ) (m m' : Net) : Type 0 where
   pub tile : Tiling P B k m'
   pub tris : m' .tris ≡ m .tris
   pub corner : (u : ℕ) → Has m u → Has m' u
   pub present : (j : ℕ) → Present m j → Present m' j
   pub marked : (u w : ℕ) → Marked m u w → Marked m' u w
   pub edge : (h : ℕ) × (h < 3 * m' .tris) × (m' .org h ≡ b) × (dst m' h ≡ a)
+  pub only : (u w : ℕ) → Marked m' u w → Marked m u w
+  pub outside : (h : ℕ) → h < 3 * m .tris → ¬ Slots slot 0 (suc n) h → Beside slot (suc n) m m' h
+  pub root : (m' .org (3 * slot n) ≡ b) × (dst m' (3 * slot n) ≡ a) × (3 * slot n < 3 * m' .tris)
 
 -- The corners of m are points below k.
 abbrev pub Low : ℕ → Net → Type 0
 Low k m = (h : ℕ) → h < 3 * m .tris → m .org h < k
 
--- FROM THE MODEL: where a net of the model is good and recovered from m, the net m' that reads it is taken from m. Recovered alone would
--- not do: it compares the ends of partners as points and not by their numbers, it says nothing of the marks of partners, and it gives no
--- bound of the corners.
+-- FROM THE MODEL: where a net of the model is good, recovered from m and traced to a net that m reads, the net m' that reads it is taken
+-- from m. Recovered alone would not do: it compares the ends of partners as points and not by their numbers, it says nothing of the marks
+-- of partners, and it gives no bound of the corners.
 abbrev pub FromCavity : Type 0
 FromCavity =
-    (P : ℕ → Pt ℤ) (B : Side → Pt ℤ) (k a b : ℕ) (m m' : Net) (σ : Model) →
-    Good (AlongP P B) σ → Recovered P B (Marked m) (Has m) (m .tris) a b σ → Reads m' σ → Low k m' → Taken P B k a b m m'
+    (P : ℕ → Pt ℤ) (B : Side → Pt ℤ) (k a b : ℕ) (slot : ℕ → ℕ) (n : ℕ) (m m' : Net) (σ σ' : Model) →
+    Tiling P B k m → Reads m σ → Good (AlongP P B) σ' → Recovered P B (Marked m) (Has m) (m .tris) a b σ' →
+    Traced (Marked m) slot (m .tris) n a b σ σ' → Reads m' σ' → Low k m' → Taken P B k a b slot n m m'
 
 -- ---- both together
 
@@ -91,4 +110,4 @@ abbrev pub Through : Type 1
 Through =
     (P : ℕ → Pt ℤ) (B : Side → Pt ℤ) (k N : ℕ) (F : Figure) (cap n l r PL PR : ℕ) (m m' : Net) (σ : Model) →
     Tiling P B k m → Places N F (m .tris) cap n l r PL PR → Recovery (CcwP P) F (m .tris) n l r PL PR (image P B m) σ →
-    Reads m' σ → Taken P B k (F .cl 0) (F .cl (suc l)) m m'
+    Reads m' σ → Taken P B k (F .cl 0) (F .cl (suc l)) (F .slot) n m m'

@@ -8,6 +8,9 @@ pub mod Tiles
 pub mod Choice
 pub mod Strip
 pub mod Walk
+pub mod Stays
+pub mod Only
 pub mod Recover
 pub mod Run
 pub mod Recovered
+pub mod Traces

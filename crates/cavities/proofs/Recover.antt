@@ -34,7 +34,7 @@ pick-no (no l) a b h = refl
 
 -- ---- searches
 
-find-slot : (slot : ℕ → ℕ) (n s : ℕ) → Dec ((y : ℕ) × (y < n) × (slot y ≡ s))
+pub find-slot : (slot : ℕ → ℕ) (n s : ℕ) → Dec ((y : ℕ) × (y < n) × (slot y ≡ s))
 find-slot slot zero s = no (λ r. let l = r .1 in none (r .0) l)
   where
     none : (y : ℕ) → y < 0 → ⊥
@@ -103,7 +103,7 @@ module _ (W : World) (Ccw : ℕ → ℕ → ℕ → Type 0) (F : Figure) (t cap 
   idx : (x : ℕ) → ¬ (x < suc l) → x < suc l + suc r → l + suc r - x < suc r
   idx x d k = omega arith
 
-  in-vt : (x : ℕ) → x < suc l + suc r → Gaps (F .vt) 0 (suc (suc (suc n))) (gaps F l r x)
+  pub in-vt : (x : ℕ) → x < suc l + suc r → Gaps (F .vt) 0 (suc (suc (suc n))) (gaps F l r x)
   in-vt x k = go (decLt x (suc l))
     where
       go : Dec (x < suc l) → Gaps (F .vt) 0 (suc (suc (suc n))) (gaps F l r x)
@@ -272,7 +272,7 @@ module _ (W : World) (Ccw : ℕ → ℕ → ℕ → Type 0) (F : Figure) (t cap 
 -- ---- in one: the walk to b, the filling of both sides, and a tiling again
 
 module _ (pts : ℕ → Pt ℤ) (base : Side → Pt ℤ) (N : ℕ) (must : ℕ → ℕ → Type 0) (point : ℕ → Type 0) (F : Figure) (t cap n l r PL PR : ℕ) (σ σ' : Net) (til : Tiled (world pts base N must point) (CcwP pts) (F .vt) t cap σ) (low : (h : ℕ) → Live σ h → h < 3 * t) (fits : suc (suc n) < cap) (a-same : F .cl 0 ≡ F .cr 0) (b-same : F .cl (suc l) ≡ F .cr (suc r)) (room : Room (world pts base N must point) (F .vt) n PL PR σ) (rec : Recovery (CcwP pts) F t n l r PL PR σ σ') where
-  opened-net : Open (world pts base N must point) F t n l r σ (rec .σ4)
+  pub opened-net : Open (world pts base N must point) F t n l r σ (rec .σ4)
   opened-net =
       arrive (world pts base N must point) (CcwP pts) F t cap σ til n l r (rec .x) (rec .f) (rec .g) (rec .σ1) (rec .σ2) (rec .σ3) (rec .σ4)
       (walk-strip (world pts base N must point) (CcwP pts) F t cap til (omega arith) (rec .walk)) fits (rec .arrive)

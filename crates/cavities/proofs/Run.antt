@@ -37,7 +37,7 @@ module _ (f : ℕ → ℕ) (s a b c : ℕ) where
       put-other (put (put f (3 * s) a) (3 * s + 1) b) (3 * s + 2) c h (n 2 lt2) ∙ put-other (put f (3 * s) a) (3 * s + 1) b h (n 1 lt1) ∙
       put-other f (3 * s) a h (λ e. n 0 lt0 (e ∙ is0 s))
 
-cuts : (σ : Net) (s a b c : ℕ) → ((k : ℕ) → k < 3 → Dead σ (3 * s + k)) → Cut σ (cutNet σ s a b c) s a b c
+pub cuts : (σ : Net) (s a b c : ℕ) → ((k : ℕ) → k < 3 → Dead σ (3 * s + k)) → Cut σ (cutNet σ s a b c) s a b c
 unfolding cutNet
 cuts σ s a b c dead = record {
   wrote = record {
@@ -60,7 +60,7 @@ cuts σ s a b c dead = record {
     out h l k d = not-same σ h (3 * s + k) l (dead k d)
 
 -- parked at a number whose ends are right is moved
-moves : (σ σ' : Net) (o v : ℕ) → σ .org v ≡ σ .org o → σ .dst v ≡ σ .dst o → Parked σ σ' o v → Moved σ σ' o v
+pub moves : (σ σ' : Net) (o v : ℕ) → σ .org v ≡ σ .org o → σ .dst v ≡ σ .dst o → Parked σ σ' o v → Moved σ σ' o v
 moves σ σ' o v eo ed p = record {
   dead-o = p .dead-o;
   live-v = p .live-v;

@@ -10,3 +10,4 @@ pub mod Tilings
 pub mod Corridors
 pub mod Recovery
 pub mod Recovered
+pub mod Traces

@@ -78,7 +78,7 @@ start-tile P m k a b c la lb lc o = record {
 -- ---- step 2 keeps the corners and the number of triangles
 
 module _ {P : ℕ → Pt ℤ} {B : Side → Pt ℤ} {k : ℕ} {rk : ℕ → ℕ} where
-  legal-has : {m m' : Net} {q : List ℕ} {z z' : ℕ} → Tiling P B k m → Legal P rk m q z m' z' → (u : ℕ) → Has m u → Has m' u
+  pub legal-has : {m m' : Net} {q : List ℕ} {z z' : ℕ} → Tiling P B k m → Legal P rk m q z m' z' → (u : ℕ) → Has m u → Has m' u
   legal-has v done u s = s
   legal-has v (stay n r) u s = legal-has v r u s
   legal-has v (turn h g e b w f r) u s = legal-has (flip-tile v h g b (w .pair) (w .ccw-t) (w .ccw-n)) r u (has-flip (v .linked) (tile-apart v) h g b (w .pair) (far v h g b (w .pair)) u s)

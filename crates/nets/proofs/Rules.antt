@@ -1,7 +1,7 @@
--- The sheet rules 1 to 5 and 7 of document 01, of a net that is built. Assumes nothing.
+-- The sheet rules 1 to 5 and 7 of document 01, of a net that is built, and of any tiling at rest. Assumes nothing.
 use mathlib.Core.Logic.{_⊎_, inl, inr}
 use mathlib.Core.Path.{_≡_, refl, sym, ap, ap₂, _∙_}
-use Prim.Native.Nat.{ℕ, zero, suc, _*_, _/_, _<_, _≤_}
+use Prim.Native.Nat.{ℕ, zero, suc, _+_, _*_, _/_, _<_, _≤_}
 use native.Mathlib.Decide.{decLt}
 use native.Mathlib.Omega.{arith}
 use lib.IntN.{ℤ, pos}
@@ -15,8 +15,9 @@ use Rattle.plane.specs.Halfedges.{nxt}
 use Rattle.plane.specs.Points.{Pt}
 use Rattle.plane.specs.Tiles.{OnSide}
 use Rattle.nets.specs.Building.{Rules, onRim, Built}
+use Rattle.nets.specs.Flipping.{Wants}
 use Rattle.nets.specs.Nets.{Net, dst, prv}
-use Rattle.nets.specs.Tilings.{tri, Tiling}
+use Rattle.nets.specs.Tilings.{tri, Tiling, Present}
 use Rattle.nets.proofs.FlipTile.{tile-apart}
 use Rattle.nets.proofs.Interior.{two-sides}
 use Rattle.nets.proofs.Locate.{one-edge}
@@ -25,10 +26,8 @@ use Rattle.nets.proofs.Plain.{wanted}
 use Rattle.nets.proofs.Slot.{nxt-in}
 use Rattle.nets.proofs.Tile.{from, tri-from}
 
-module _ {P : ℕ → Pt ℤ} {B : Side → Pt ℤ} {rk : ℕ → ℕ} {n : ℕ} {m : Net} {z : ℕ} (s : Built P B rk n m z) (inn : (u : ℕ) → u < n → (i : Side) → NonNeg (orient (B i) (B (next i)) (P u))) where
-  abbrev v : Tiling P B n m
-  v = s .tile
-
+-- A tiling that step 3 leaves as it is keeps them, with marked edges or without.
+module _ {P : ℕ → Pt ℤ} {B : Side → Pt ℤ} {rk : ℕ → ℕ} {n : ℕ} {m : Net} (v : Tiling P B n m) (rest : (h g : ℕ) → h < 3 * m .tris → ¬ Wants P rk m h g) (present : Present m n) (count : m .tris + 2 + onRim P B n ≡ 2 * n) (few : m .tris + 5 ≤ 2 * n) (inn : (u : ℕ) → u < n → (i : Side) → NonNeg (orient (B i) (B (next i)) (P u))) where
   empty : (k : ℕ) → k ≡ 0 → sumTo k (tri P m orient) ≡ pos 0
   unfolding sumTo
   empty k e = rw e
@@ -61,17 +60,20 @@ module _ {P : ℕ → Pt ℤ} {B : Side → Pt ℤ} {rk : ℕ → ℕ} {n : ℕ}
   met' h b zero q = inr (v .linked .side h b q)
   met' h b (suc g) q = inl (g, v .linked .low h g b q, v .linked .from h g b q, to (v .linked) h g b q)
 
-  pub rules : Rules P B rk n m
-  rules = record {
+  pub rules-at-rest : Rules P B rk n m
+  rules-at-rest = record {
     some = some' (decLt 0 (m .tris));
-    few = s .few;
+    few = few;
     low = v .corners;
     distinct = tile-apart v;
     ccw = v .ccw;
     once = one-edge v inn;
     met = λ h b. met' h b (m .adj h) refl;
-    present = s .present;
+    present = present;
     areas = v .areas;
-    settled = λ h g b c e f z w. s .rest h g b (wanted v rk h g b (is-mate h g b c e f (m .adj h) refl) z w);
-    count = s .count;
+    settled = λ h g b c e f z w. rest h g b (wanted v rk h g b (is-mate h g b c e f (m .adj h) refl) z w);
+    count = count;
   }
+
+pub rules : {P : ℕ → Pt ℤ} {B : Side → Pt ℤ} {rk : ℕ → ℕ} {n : ℕ} {m : Net} {z : ℕ} → Built P B rk n m z → ((u : ℕ) → u < n → (i : Side) → NonNeg (orient (B i) (B (next i)) (P u))) → Rules P B rk n m
+rules s inn = rules-at-rest (s .tile) (s .rest) (s .present) (s .count) (s .few) inn

@@ -20,6 +20,7 @@ use Rattle.plane.specs.Determinants.{orient, incircle}
 use Rattle.plane.specs.Halfedges.{nxt}
 use Rattle.plane.specs.Points.{Pt}
 use Rattle.nets.specs.Flipping.{Gains, Wants, Lower, by-first, by-second, leave, reborn, Legal, done, stay, turn}
+pub use Rattle.nets.specs.Flipping.{Mem, top, below, Watched}
 use Rattle.nets.specs.Moves.{Move, after}
 use Rattle.nets.specs.Nets.{Net, Linked, prv}
 use Rattle.nets.specs.Steps.{flip}
@@ -30,14 +31,6 @@ use Rattle.nets.proofs.FlipTile.{tile-apart, far, flip-tile}
 use Rattle.nets.proofs.Net.{to}
 use Rattle.nets.proofs.Slot.{nxt-slot, nxt-slot2}
 use Rattle.nets.proofs.Surgery.{Surgery, sewn, sewn-back}
-
-pub data Mem (s : ℕ) : List ℕ → Type 0 where
-  top : {q : List ℕ} → Mem s (s ∷ q)
-  below : {u : ℕ} {q : List ℕ} → Mem s q → Mem s (u ∷ q)
-
--- what step 3 would flip is suspect
-abbrev pub Watched : (ℕ → Pt ℤ) → (ℕ → ℕ) → Net → List ℕ → Type 0
-Watched P rk m q = (h g : ℕ) → h < 3 * m .tris → Wants P rk m h g → Mem (h / 3) q ⊎ Mem (g / 3) q
 
 tris-after : (m r : Net) (L : List Move) → after m r L .tris ≡ r .tris
 unfolding after

@@ -31,6 +31,15 @@ pub record Wants (P : ℕ → Pt ℤ) (rk : ℕ → ℕ) (m : Net) (h g : ℕ) :
   pub ccw-t : Pos (orient (P (m .org h)) (P (m .org (prv g))) (P (m .org (prv h))))
   pub ccw-n : Pos (orient (P (m .org (prv g))) (P (m .org (nxt h))) (P (m .org (prv h))))
 
+-- s is one of the suspects
+pub data Mem (s : ℕ) : List ℕ → Type 0 where
+  top : {q : List ℕ} → Mem s (s ∷ q)
+  below : {u : ℕ} {q : List ℕ} → Mem s q → Mem s (u ∷ q)
+
+-- What step 3 would flip is suspect: the triangle of the half-edge, or that of its partner.
+abbrev pub Watched : (ℕ → Pt ℤ) → (ℕ → ℕ) → Net → List ℕ → Type 0
+Watched P rk m q = (h g : ℕ) → h < 3 * m .tris → Wants P rk m h g → Mem (h / 3) q ⊎ Mem (g / 3) q
+
 -- s leaves the suspects
 unfoldable pub leave : ℕ → List ℕ → List ℕ
 leave s [] = []

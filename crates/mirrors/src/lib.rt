@@ -1,0 +1,1 @@
+// The working area during a recovery, seen as a net of the model of recovery: definitions (specs/) and their laws (proofs/), and no code.

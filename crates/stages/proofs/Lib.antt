@@ -1,0 +1,4 @@
+pub mod Marking
+pub mod Areas
+pub mod Stages
+pub mod Agree

@@ -1,0 +1,1 @@
+// How far the pairs have come in a net: definitions (specs/) and their laws (proofs/), and no code.

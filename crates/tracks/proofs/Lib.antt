@@ -1,0 +1,11 @@
+pub mod Leaf
+pub mod Count
+pub mod Saw
+pub mod Step
+pub mod Later
+pub mod Keeps
+pub mod State
+pub mod Start
+pub mod Apexes
+pub mod Stick
+pub mod Walked
