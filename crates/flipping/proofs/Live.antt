@@ -5,6 +5,7 @@ use Prim.Native.Nat.{ℕ, zero, suc, _+_, _-_, _*_, _/_, _%_, _<_, _≤_}
 use native.Mathlib.Omega.{arith}
 use lib.IntN.{ℤ}
 use lib.ListN.{length, getD, set}
+use lib.Seq.{getD-set-other}
 use Rattle.tables.specs.Data.{pointCount, point, base}
 use Rattle.tables.specs.Figures.{Figure}
 use Rattle.tables.specs.Rules.{rank}
@@ -24,6 +25,7 @@ use Rattle.nets.proofs.Suspects.{turn-falls}
 use Rattle.suspects.specs.Stack.{stack, Fresh, Suspects, Aside, Reborn}
 use Rattle.suspects.proofs.Stack.{stack-none, stack-length, stack-same, suspects-same, popped-low, popped-is, popped-fresh, popped-suspects}
 use Rattle.wants.specs.Tries.{Ready, First, edge, none}
+use Rattle.flipping.specs.Above.{Above}
 use Rattle.flipping.proofs.Elsewhere.{flip-off}
 
 -- ---- what is aside leaves the net, the ranks and the rest
@@ -40,6 +42,15 @@ aside-kept count n w w' l a = record {
   free = λ i f b d. a .over (16 * i + f) (omega arith);
   rest = λ c b. a .beyond c (omega arith);
 }
+
+aside-above : (count : ℕ) (w w' : List ℕ) → Aside count w w' → Above count w w'
+aside-above count w w' a = record { links = λ c l b. a .under c b; places = λ c l b. a .beyond c l }
+
+above-same : (count : ℕ) (w : List ℕ) → Above count w w
+above-same count w = record { links = λ c l b. refl; places = λ c l b. refl }
+
+above-then : (count : ℕ) (w u v : List ℕ) → Above count w u → Above count u v → Above count w v
+above-then count w u v a b = record { links = λ c l k. b .links c l k ∙ a .links c l k; places = λ c l k. b .places c l k ∙ a .places c l k }
 
 -- ---- a working area that is ready
 
@@ -86,6 +97,7 @@ left ps count w m = measure (point ps) (rank ps) (pointCount ps) (6 * (pointCoun
 pub record Live (ps : List ℤ) (w₀ : List ℕ) (count many newest : ℕ) (w : List ℕ) (m z : ℕ) : Type 0 where
   pub ready : Ready ps count w
   pub kept : Kept (pointCount ps) w₀ w
+  pub above : Above count w₀ w
   pub suspects : Suspects count w (stack w m)
   pub low : z < count
   pub goes : (m' : Net) (z' : ℕ) → Legal (point ps) (rank ps) (netOf w count) (stack w m) z m' z' → Legal (point ps) (rank ps) (netOf w₀ count) (stack w₀ many) newest m' z'
@@ -94,6 +106,7 @@ pub record Live (ps : List ℤ) (w₀ : List ℕ) (count many newest : ℕ) (w :
 pub record Popped (ps : List ℤ) (w₀ : List ℕ) (count many newest : ℕ) (w : List ℕ) (k t z : ℕ) : Type 0 where
   pub ready : Ready ps count w
   pub kept : Kept (pointCount ps) w₀ w
+  pub above : Above count w₀ w
   pub slot : t < count
   pub fresh : Fresh t (stack w k)
   pub suspects : Suspects count w (stack w k)
@@ -101,12 +114,12 @@ pub record Popped (ps : List ℤ) (w₀ : List ℕ) (count many newest : ℕ) (w
   pub goes : (m' : Net) (z' : ℕ) → Legal (point ps) (rank ps) (netOf w count) (t ∷ stack w k) z m' z' → Legal (point ps) (rank ps) (netOf w₀ count) (stack w₀ many) newest m' z'
 
 pub live-start : (ps : List ℤ) (w : List ℕ) (count many newest : ℕ) → Ready ps count w → Suspects count w (stack w many) → newest < count → Live ps w count many newest w many newest
-live-start ps w count many newest r g l = record { ready = r; kept = kept-same (pointCount ps) w; suspects = g; low = l; goes = λ m' z' s. s }
+live-start ps w count many newest r g l = record { ready = r; kept = kept-same (pointCount ps) w; above = above-same count w; suspects = g; low = l; goes = λ m' z' s. s }
 
 module _ {ps : List ℤ} {w₀ : List ℕ} {count many newest : ℕ} where
   module _ {w : List ℕ} {m z : ℕ} (o : Live ps w₀ count many newest w m z) where
-    pub live-end : m ≡ 0 → (z < count) × Legal (point ps) (rank ps) (netOf w₀ count) (stack w₀ many) newest (netOf w count) z × Kept (pointCount ps) w₀ w
-    live-end e = (o .low, o .goes (netOf w count) z (rw (e, stack-none) Legal.done), o .kept)
+    pub live-end : m ≡ 0 → (z < count) × Legal (point ps) (rank ps) (netOf w₀ count) (stack w₀ many) newest (netOf w count) z × Kept (pointCount ps) w₀ w × Above count w₀ w
+    live-end e = (o .low, o .goes (netOf w count) z (rw (e, stack-none) Legal.done), o .kept, o .above)
 
     -- ---- a suspect is taken
 
@@ -125,10 +138,19 @@ module _ {ps : List ℤ} {w₀ : List ℕ} {count many newest : ℕ} where
           let l = popped-low count w m p (o .suspects) in let b = ready-below (o .ready) in
           kept-set (pointCount ps) w (flagCell s) 0 (omega arith) (omega arith) (omega arith)
 
+      flag-above : Above count w v
+      flag-above =
+          let l = popped-low count w m p (o .suspects) in
+          record {
+            links = λ c a b. getD-set-other w (flagCell s) c 0 0 (λ e. let z : ⊥ = omega arith in z);
+            places = λ c a b. getD-set-other w (flagCell s) c 0 0 (λ e. let z : ⊥ = omega arith in z);
+          }
+
       pop-at : Popped ps w₀ count many newest v (m - 1) s z
       pop-at = record {
         ready = ready-same (o .ready) flag-net flag-kept;
         kept = kept-then (pointCount ps) w₀ w v (o .kept) flag-kept;
+        above = above-then count w₀ w v (o .above) flag-above;
         slot = popped-low count w m p (o .suspects);
         fresh = popped-fresh count w m p (o .suspects);
         suspects = popped-suspects count w m p (o .suspects);
@@ -154,7 +176,7 @@ module _ {ps : List ℤ} {w₀ : List ℕ} {count many newest : ℕ} where
     -- ---- none of its edges flips
 
     pub live-stay : 3 ≤ e → Live ps w₀ count many newest w k z
-    live-stay l = record { ready = o .ready; kept = o .kept; suspects = o .suspects; low = o .low; goes = λ m' z' g. o .goes m' z' (Legal.stay quiet g) }
+    live-stay l = record { ready = o .ready; kept = o .kept; above = o .above; suspects = o .suspects; low = o .low; goes = λ m' z' g. o .goes m' z' (Legal.stay quiet g) }
       where
         rests : {x : ℕ} → First (point ps) (rank ps) (netOf w count) t x → 3 ≤ x → (h g : ℕ) → h / 3 ≡ t → ¬ Wants (point ps) (rank ps) (netOf w count) h g
         rests (edge x g b u n) l = absurd (let z : ⊥ = omega arith in z)
@@ -215,7 +237,13 @@ module _ {ps : List ℤ} {w₀ : List ℕ} {count many newest : ℕ} where
         flip-is = rw i (flip-net w count (ready-range (o .ready) fig) h g hb gb)
 
         off : (c : ℕ) → 9 ≤ c % 16 → c % 16 < 11 → getD v c 0 ≡ getD w c 0
-        off c l b = rw i (flip-off c l b w h g)
+        off c l b = rw i (flip-off count c (λ s k x y e. let z : ⊥ = omega arith in z) (λ e. let z : ⊥ = omega arith in z) w (ready-range (o .ready) fig .partners) h g hb gb)
+
+        flip-above : Above count w v
+        flip-above = record {
+          links = λ c l b. rw i (flip-off count c (λ s k x y e. let z : ⊥ = omega arith in z) (λ e. let z : ⊥ = omega arith in z) w (ready-range (o .ready) fig .partners) h g hb gb);
+          places = λ c l b. rw i (flip-off count c (λ s k x y e. let z : ⊥ = omega arith in z) b w (ready-range (o .ready) fig .partners) h g hb gb);
+        }
 
         flip-stack : stack v k ≡ stack w k
         flip-stack = stack-same w v k (λ j l. off (stackCell j) (omega arith) (omega arith))
@@ -254,6 +282,7 @@ module _ {ps : List ℤ} {w₀ : List ℕ} {count many newest : ℕ} where
           live-turn = record {
             ready = record { tiling = rw new-net new-tile; ranks = λ j l. new-kept .ranks j ∙ o .ready .ranks j l; few = o .ready .few; room = rw (new-kept .len) (o .ready .room) };
             kept = kept-then (pointCount ps) w₀ w u (o .kept) new-kept;
+            above = above-then count w₀ w u (o .above) (above-then count w v u flip-above (aside-above count v u (q .aside)));
             suspects = q .suspects;
             low = let x = gb in omega arith;
             goes = λ m' z' s. o .goes m' z' (Legal.turn h g slot below wants (λ x y l j. found .before x y l (j ∙ slot)) (rw (new-net, new-stack) at s));

@@ -8,6 +8,7 @@ ghost use Rattle.nets.specs.Flipping.{Legal};
 ghost use Rattle.nets.specs.Layout.{netOf, Kept};
 ghost use Rattle.suspects.specs.Stack.{stack, Suspects};
 ghost use Rattle.wants.specs.Tries.{Ready};
+ghost use Rattle.flipping.specs.Above.{Above};
 
 // Flips until no suspect is left. The answer is the newest slot. No count of steps stands in for the end: a flip lowers the volume below
 // the lifted triangles, or keeps it and lowers the ranks of the edges.
@@ -22,7 +23,8 @@ pub fn legalize_suspects(
     requires { ⌜ Suspects count (now work) (stack (now work) many) × (newest < count) ⌝ }
     ensures { λ r. ⌜ (r < count)
         × Legal (point (now (points .entry))) (rank (now (points .entry))) (netOf (now (work .entry)) count) (stack (now (work .entry)) many) newest (netOf (now (work .exit)) count) r
-        × Kept (pointCount (now (points .entry))) (now (work .entry)) (now (work .exit)) ⌝ }
+        × Kept (pointCount (now (points .entry))) (now (work .entry)) (now (work .exit))
+        × Above count (now (work .entry)) (now (work .exit)) ⌝ }
 {
     let mut m = many;
     let mut z = newest;

@@ -88,7 +88,7 @@ pub fn record(work: &mut [u32], s: usize, x: Tri)
 
 // The partner, where there is one, is told that its partner is half-edge y.
 pub fn rewire(work: &mut [u32], partner: u32, y: usize)
-    requires { ⌜ (y < 24576) × (partner ≤ 24576) ⌝ }
+    requires { ⌜ (y < 49152) × (partner ≤ 49152) ⌝ }
     requires { ⌜ 16 * ((partner + 2) / 3) ≤ length (now work) ⌝ }
     ensures { λ _. ⌜ now (work .exit) ≡ tell partner y (now (work .entry)) ⌝ }
 {

@@ -1,0 +1,3 @@
+pub mod Closings
+pub mod Clears
+pub mod Pushes

@@ -1,0 +1,3 @@
+pub mod Lines
+pub mod Carved
+pub mod Runs
