@@ -1,13 +1,13 @@
-// Runs the cases of document 01 that are marked to be run, and prints a line for each.
-mod checker_cases;
-mod print;
-mod signs_cases;
+// Runs the cases of document 01 through the cutter: the sheets and refusals that it names, each row of the table, the order of its rows, the
+// limits, and small figures whose pairs are hard to recover.
+mod limits;
+mod pairs;
+mod proved;
+mod refusals;
 
 fn main() {
-    signs_cases::whole();
-    signs_cases::intake();
-    signs_cases::points();
-    signs_cases::parts();
-    signs_cases::filter();
-    checker_cases::all();
+    proved::all();
+    refusals::all();
+    limits::all();
+    pairs::all();
 }
