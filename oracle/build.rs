@@ -50,7 +50,7 @@ fn main() {
         link("signs_c");
     }
     if env::var_os("CARGO_FEATURE_OURS").is_some() {
-        link("delaunay_c");
+        link("exports");
         link("checker_c");
     }
 }

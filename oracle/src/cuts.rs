@@ -1,13 +1,12 @@
 //! The original's `triangulate` against the second implementation of the table and of the rules, on
-//! figures; and, with the feature `ours`, the project's own triangulation of the points alone against
-//! both.
+//! figures; and, with the feature `ours` or `hosted`, the project's own cutter against both.
 
 use crate::cutting::original_triangulate;
-#[cfg(feature = "ours")]
-use crate::figures::spoiled_points;
+#[cfg(any(feature = "ours", feature = "hosted"))]
+use crate::figures::spoiled_counts;
 use crate::figures::{figure, spoiled, Figure};
 use crate::generator::Generator;
-#[cfg(feature = "ours")]
+#[cfg(any(feature = "ours", feature = "hosted"))]
 use crate::ours;
 use crate::plane::{orient, pairs_of, points_of};
 use crate::report::Report;
@@ -18,9 +17,9 @@ use crate::table::{output_room, refusal, working_room};
 pub const COMPARISONS: &[fn(u64, usize) -> Report] = &[
     sheets,
     refusals,
-    #[cfg(feature = "ours")]
+    #[cfg(any(feature = "ours", feature = "hosted"))]
     our_sheets,
-    #[cfg(feature = "ours")]
+    #[cfg(any(feature = "ours", feature = "hosted"))]
     our_refusals,
 ];
 
@@ -133,76 +132,79 @@ pub fn refusals(count: u64, most: usize) -> Report {
     report
 }
 
-/// What fills the output and the working area before the project's triangulation is asked, so that it
-/// is seen what is written.
-#[cfg(feature = "ours")]
+/// What fills the output and the working area before the project's cutter is asked, so that it is seen
+/// what is written.
+#[cfg(any(feature = "ours", feature = "hosted"))]
 const BEFORE: u32 = 0xdead_beef;
 
-/// How the project's triangulation of the points alone differs from what is expected, if it does. The
-/// output and the working area have these lengths.
+/// How the project's cutter differs from what is expected, if it does. The output and the working area
+/// have these lengths.
 ///
-/// Where the table has a row, it answers 0 and writes nothing. Elsewhere its list is the original's in
-/// house order, its checker says yes to the list, the rest of the output is as before, and the working
-/// area that it needs is left zero.
-#[cfg(feature = "ours")]
-fn our_fault(points: &[i32], out_len: usize, work_len: usize) -> (u32, Option<String>) {
-    let row = refusal(points, &[], out_len, work_len).map_or(0, |(row, _)| row);
+/// Where the table has a row, it answers the row and the place and leaves the output as before.
+/// Elsewhere its list is the original's in house order, its checker says yes to the list, and the rest of
+/// the output is as before. By rows 1 to 3 the working area is as before, and else what it needs of it
+/// is left zero, and the rest as before.
+#[cfg(any(feature = "ours", feature = "hosted"))]
+fn our_fault(figure: &Figure, out_len: usize, work_len: usize) -> (u32, Option<String>) {
+    let (points, pairs) = (&figure.points, &figure.pairs);
+    let row = refusal(points, pairs, out_len, work_len);
     let mut out = vec![BEFORE; out_len];
     let mut work = vec![BEFORE; work_len];
-    let count = ours::triangulate(points, &mut out, &mut work);
+    let answer = ours::cut(points, pairs, &mut out, &mut work);
+    let (number, value) = ((answer >> 32) as u32, answer as u32);
     let as_before = |list: &[u32]| list.iter().all(|v| *v == BEFORE);
-    let fault = if row != 0 {
-        if count != 0 {
-            Some(format!(
-                "the table's row is {row}, and ours gives {count} triangles"
-            ))
-        } else if !as_before(&out) || !as_before(&work) {
-            Some(format!("the table's row is {row}, and ours writes"))
-        } else {
-            None
+    let early = matches!(number, 1..=3);
+    let room = if early { 0 } else { working_room(points.len() / 2) };
+    if room > work_len {
+        let said = format!("ours answers {number} with too small a working area");
+        return (row.map_or(0, |(row, _)| row), Some(said));
+    }
+    let (used, beyond) = work.split_at_mut(room);
+    let left = used.iter().all(|v| *v == 0) && as_before(beyond);
+    let fault = match row {
+        Some((row, place)) => {
+            if (number, value) != (row, place) {
+                Some(format!("the table's row is {row} at {place}, and ours answers {number} and {value}"))
+            } else if !as_before(&out) || !left {
+                Some(format!("the table's row is {row}, and ours leaves its rooms otherwise than promised"))
+            } else {
+                None
+            }
         }
-    } else if count == 0 {
-        Some("the table has no row, and ours refuses".to_string())
-    } else if 3 * count > out_len {
-        Some(format!(
-            "ours gives {count} triangles, more than the output holds"
-        ))
-    } else {
-        let (list, rest) = out.split_at(3 * count);
-        let (used, beyond) = work.split_at_mut(working_room(points.len() / 2));
-        let left = used.iter().all(|v| *v == 0) && as_before(beyond) && as_before(rest);
-        match original_triangulate(&points_of(points), &[]) {
-            Err(said) => Some(format!("the original panics: {said}")),
-            Ok(theirs) if theirs.as_flattened() != list => Some(format!(
-                "the lists differ, of {} triangles of the original's and {count} of ours",
-                theirs.len()
-            )),
-            Ok(_) if !left => Some("ours leaves its rooms otherwise than promised".to_string()),
-            Ok(_) => match ours::check(points, &[], list, used) {
-                0 => None,
-                said => Some(format!("the lists agree, and the checker says {said}")),
-            },
+        None if number != 0 => Some(format!("the table has no row, and ours refuses by {number} at {value}")),
+        None if 3 * value as usize > out_len => {
+            Some(format!("ours gives {value} triangles, more than the output holds"))
+        }
+        None => {
+            let (list, rest) = out.split_at(3 * value as usize);
+            let left = left && as_before(rest);
+            match original_triangulate(&points_of(points), &pairs_of(pairs)) {
+                Err(said) => Some(format!("the original panics: {said}")),
+                Ok(theirs) if theirs.as_flattened() != list => Some(format!(
+                    "the lists differ, of {} triangles of the original's and {value} of ours",
+                    theirs.len()
+                )),
+                Ok(_) if !left => Some("ours leaves its rooms otherwise than promised".to_string()),
+                Ok(_) => match ours::check(points, pairs, list, used) {
+                    0 => None,
+                    said => Some(format!("the lists agree, and the checker says {said:#x}")),
+                },
+            }
         }
     };
-    (row, fault)
+    (row.map_or(0, |(row, _)| row), fault)
 }
 
-/// The first so many figures, of at most so many points, with their pairs dropped: the project's list
-/// is the original's.
-#[cfg(feature = "ours")]
+/// The first so many figures, of at most so many points: the project's list is the original's.
+#[cfg(any(feature = "ours", feature = "hosted"))]
 pub fn our_sheets(count: u64, most: usize) -> Report {
-    let answers = ["with no pairs", "with pairs dropped"];
-    let mut report = Report::of(
-        "figures",
-        "Our lists of points alone against the original's",
-        &answers,
-    );
+    let answers = ["with no pairs", "with pairs"];
+    let mut report = Report::of("figures", "Our sheets against the original's", &answers);
     for number in 0..count {
-        let mut figure = figure(number, most);
+        let figure = figure(number, most);
         report.expect(!figure.pairs.is_empty() as usize);
-        figure.pairs.clear();
         let n = figure.points.len() / 2;
-        let fault = match our_fault(&figure.points, output_room(n), working_room(n)) {
+        let fault = match our_fault(&figure, output_room(n), working_room(n)) {
             (0, fault) => fault,
             (row, _) => Some(format!("the table refuses it by {row}")),
         };
@@ -213,19 +215,15 @@ pub fn our_sheets(count: u64, most: usize) -> Report {
     report
 }
 
-/// The first so many figures with faults, with their pairs dropped: the project's triangulation
-/// refuses exactly where the table does, by 1 to 7, and elsewhere its list is the original's.
-#[cfg(feature = "ours")]
+/// The first so many figures with faults: the project's cutter refuses exactly where the table does, with
+/// its number and its place, and elsewhere its list is the original's.
+#[cfg(any(feature = "ours", feature = "hosted"))]
 pub fn our_refusals(count: u64, most: usize) -> Report {
-    let answers = ["none", "1", "2", "3", "4", "5", "6", "7"];
-    let mut report = Report::of(
-        "figures",
-        "Our refusals of points alone against the table",
-        &answers,
-    );
+    let answers = ["none", "1", "2", "3", "4", "5", "6", "7", "8", "9", "10"];
+    let mut report = Report::of("figures", "Our refusals against the table", &answers);
     for number in 0..count {
         let g = &mut Generator::new(!number);
-        let figure = spoiled_points(g, &figure(number, most));
+        let figure = spoiled_counts(g, &figure(number, most));
         let n = (figure.points.len() / 2).max(3);
         // More room than is needed, just enough, or too little.
         let mut room = |needed: usize| match g.within(0, 31) {
@@ -235,7 +233,7 @@ pub fn our_refusals(count: u64, most: usize) -> Report {
             _ => needed,
         };
         let (out_len, work_len) = (room(output_room(n)), room(working_room(n)));
-        let (row, fault) = our_fault(&figure.points, out_len, work_len);
+        let (row, fault) = our_fault(&figure, out_len, work_len);
         report.expect(row as usize);
         if let Some(fault) = fault {
             report.differ(|| format!("figure {number} ({}): {fault}.", words(&figure)));
@@ -267,13 +265,13 @@ mod tests {
         expect_no_difference(refusals(3000, 100));
     }
 
-    #[cfg(feature = "ours")]
+    #[cfg(any(feature = "ours", feature = "hosted"))]
     #[test]
-    fn our_lists_are_the_original_s() {
+    fn our_sheets_are_the_original_s() {
         expect_no_difference(our_sheets(3000, 300));
     }
 
-    #[cfg(feature = "ours")]
+    #[cfg(any(feature = "ours", feature = "hosted"))]
     #[test]
     fn ours_refuses_where_the_table_does() {
         expect_no_difference(our_refusals(3000, 100));

@@ -462,6 +462,33 @@ pub fn random_pairs(g: &mut Generator, points: &[Point], most: usize) -> Vec<Pai
     pairs
 }
 
+/// So many segments between points that are near each other, none blocked and no two crossing: few of
+/// them are edges already, and all have short corridors. Fewer, where none is found in many trials.
+pub fn near_pairs(g: &mut Generator, points: &[Point], count: usize) -> Vec<Pair> {
+    let n = points.len();
+    let mut pairs: Vec<Pair> = Vec::new();
+    let far = |a: Point, b: Point| {
+        let (dx, dy) = ((a.0 - b.0) as i64, (a.1 - b.1) as i64);
+        dx * dx + dy * dy
+    };
+    for _ in 0..40 * count {
+        if pairs.len() >= count {
+            break;
+        }
+        let a = g.within(0, n as i64 - 1) as usize;
+        // One of the points that are nearest, but not the very nearest.
+        let mut near: Vec<usize> = (0..n).filter(|b| *b != a).collect();
+        let take = 24.min(near.len() - 1);
+        near.select_nth_unstable_by_key(take, |b| far(points[a], points[*b]));
+        let b = near[g.within(0, take as i64) as usize];
+        let pair = (a as u32, b as u32);
+        if fits(points, pair, &pairs) {
+            pairs.push(pair);
+        }
+    }
+    pairs
+}
+
 /// More such segments, until there are so many, or none is found in many trials.
 fn add_random_pairs(g: &mut Generator, points: &[Point], pairs: &mut Vec<Pair>, most: usize) {
     let n = points.len() as i64;
@@ -623,16 +650,19 @@ pub fn spoiled(g: &mut Generator, figure: &Figure) -> Figure {
     figure
 }
 
-/// The same with the pairs dropped, and at times with too few or too many points.
-#[cfg(feature = "ours")]
-pub fn spoiled_points(g: &mut Generator, figure: &Figure) -> Figure {
+/// The same, and at times with too few or too many points or pairs.
+#[cfg(any(feature = "ours", feature = "hosted"))]
+pub fn spoiled_counts(g: &mut Generator, figure: &Figure) -> Figure {
     let mut figure = spoiled(g, figure);
-    figure.pairs.clear();
-    match g.within(0, 63) {
+    match g.within(0, 95) {
         0 => figure.points.truncate(g.within(0, 5) as usize),
         1 => {
             let many = MOST_POINTS as i64 + g.within(1, 100);
             figure.points.resize(2 * many as usize, 0);
+        }
+        2 => {
+            let many = MOST_PAIRS as i64 + g.within(0, 100);
+            figure.pairs.resize(2 * many as usize, 0);
         }
         _ => {}
     }

@@ -3,9 +3,9 @@
 //! Where the library is not linked, the command of its host follows: `oracle N EMULATOR HOST`.
 //!
 //! `oracle figures N M` compares the original's triangles with the requirement's table and rules, on
-//! N figures of at most M points; `oracle/figures` runs it. `oracle times` measures the original's
-//! triangulation; `bench/cut` runs it. With the feature `ours` both ask the project's triangulation
-//! and its checker too.
+//! N figures of at most M points; `oracle/figures` runs it, and with the feature `ours` or `hosted` the
+//! project's cutter and its checker are asked too. `oracle times` measures the original's triangulation
+//! and, with the feature `ours`, the project's cutter; `bench/cut` runs it.
 //!
 //! The exit status is 0 where nothing differs, 1 where something does and 2 on bad usage.
 
@@ -17,7 +17,9 @@ mod generator;
 #[cfg_attr(feature = "linked", path = "library_linked.rs")]
 #[cfg_attr(not(feature = "linked"), path = "library_hosted.rs")]
 mod library;
-#[cfg(feature = "ours")]
+#[cfg(any(feature = "ours", feature = "hosted"))]
+#[cfg_attr(feature = "ours", path = "ours_linked.rs")]
+#[cfg_attr(not(feature = "ours"), path = "ours_hosted.rs")]
 mod ours;
 mod patterns;
 mod plane;

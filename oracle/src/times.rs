@@ -1,8 +1,8 @@
-//! The benchmark of the cutters: the median time of a cut without pairs, printed and not asserted, and
-//! the least time beside it. It is the processor's time, so that other work on the machine counts for
+//! The benchmark of the cutters: the median time of a cut, printed and not asserted, and the least time
+//! beside it. It is the processor's time, so that other work on the machine counts for
 //! less. The cutters take turns on a figure, so that a change of the machine's speed meets them all.
 //!
-//! With the feature `ours` the project's triangulation and its refusal tests alone are measured too,
+//! With the feature `ours` the project's cutter and its refusal tests alone are measured too,
 //! and it is asserted that its list is the original's in house order and that its checker says yes.
 
 use std::hint::black_box;
@@ -12,10 +12,10 @@ use std::time::{Duration, Instant};
 use original::robust::cdt::triangulate;
 use original::robust::exact::rational::R2;
 
-use crate::cutting::original_points;
-use crate::figures::{grid, in_x_order, uniform_inside, Figure, Order};
+use crate::cutting::{original_pairs, original_points};
+use crate::figures::{corridor, grid, in_x_order, near_pairs, uniform_inside, Figure, Order};
 use crate::generator::Generator;
-use crate::plane::points_of;
+use crate::plane::{pairs_of, points_of};
 
 /// What is measured on a figure. What it needs before it can start is no part of the time.
 trait Cutter {
@@ -31,6 +31,7 @@ trait Cutter {
 #[derive(Default)]
 struct Original {
     points: Vec<R2>,
+    pairs: Vec<(usize, usize)>,
     list: Vec<[usize; 3]>,
 }
 
@@ -41,10 +42,14 @@ impl Cutter for Original {
 
     fn prepare(&mut self, figure: &Figure) {
         self.points = original_points(&points_of(&figure.points));
+        self.pairs = original_pairs(&pairs_of(&figure.pairs));
     }
 
     fn cut(&mut self) {
-        self.list = black_box(triangulate(black_box(&self.points), &[]));
+        self.list = black_box(triangulate(
+            black_box(&self.points),
+            black_box(&self.pairs),
+        ));
     }
 }
 
@@ -55,13 +60,14 @@ mod linked {
     use crate::ours;
     use crate::table::{output_room, working_room};
 
-    /// The project's triangulation: the refusal tests, and the list in house order.
+    /// The project's cutter: the refusal tests, the building, and the list in house order.
     #[derive(Default)]
     pub struct Ours {
         points: Vec<i32>,
+        pairs: Vec<u32>,
         out: Vec<u32>,
         work: Vec<u32>,
-        triangles: usize,
+        answer: u64,
     }
 
     impl Cutter for Ours {
@@ -72,13 +78,14 @@ mod linked {
         fn prepare(&mut self, figure: &Figure) {
             let n = figure.points.len() / 2;
             self.points = figure.points.clone();
+            self.pairs = figure.pairs.clone();
             self.out = vec![0; output_room(n)];
             self.work = vec![0; working_room(n)];
         }
 
         fn cut(&mut self) {
-            let points = black_box(&self.points);
-            self.triangles = black_box(ours::triangulate(points, &mut self.out, &mut self.work));
+            let (points, pairs) = (black_box(&self.points), black_box(&self.pairs));
+            self.answer = black_box(ours::cut(points, pairs, &mut self.out, &mut self.work));
         }
     }
 
@@ -87,21 +94,22 @@ mod linked {
         pub fn fault(&mut self, original: &Original) -> Option<String> {
             let theirs = original.list.iter().map(|t| t.map(|v| v as u32)).collect();
             let theirs = in_house_order(theirs);
-            let list = self.out.get(..3 * self.triangles).unwrap_or(&[]);
+            let list = self.out.get(..3 * self.answer as usize).unwrap_or(&[]);
             if list != theirs.as_flattened() {
                 return Some("our list is not the original's".to_string());
             }
-            match ours::check(&self.points, &[], list, &mut self.work) {
+            match ours::check(&self.points, &self.pairs, list, &mut self.work) {
                 0 => None,
-                said => Some(format!("the checker says {said} to our list")),
+                said => Some(format!("the checker says {said:#x} to our list")),
             }
         }
     }
 
-    /// The project's refusal tests alone, in which the triangulation starts.
+    /// The project's refusal tests alone, in which the cutter starts.
     #[derive(Default)]
     pub struct Rows {
         points: Vec<i32>,
+        pairs: Vec<u32>,
         pub row: u32,
     }
 
@@ -112,10 +120,11 @@ mod linked {
 
         fn prepare(&mut self, figure: &Figure) {
             self.points = figure.points.clone();
+            self.pairs = figure.pairs.clone();
         }
 
         fn cut(&mut self) {
-            self.row = black_box(ours::rows(black_box(&self.points), &[]));
+            self.row = black_box(ours::rows(black_box(&self.points), black_box(&self.pairs)));
         }
     }
 }
@@ -128,6 +137,14 @@ fn figures(seed: u64) -> Vec<Figure> {
         let name = format!("{n} random points");
         figures.push(Figure::new(&name, &uniform_inside(g, n), &[]));
     }
+    for m in [500, 2000] {
+        let points = uniform_inside(g, 4096);
+        let pairs = near_pairs(g, &points, m);
+        let name = format!("4096 random points, {m} pairs");
+        figures.push(Figure::new(&name, &points, &pairs));
+    }
+    let (points, pairs) = corridor(g, 4096);
+    figures.push(Figure::new("a long corridor, 4096 points", &points, &pairs));
     let name = "the grid of 64 by 64, by rows";
     figures.push(Figure::new(name, &grid(g, 4096, 100, Order::Rows), &[]));
     let name = "the grid of 64 by 64, shuffled";
