@@ -638,6 +638,72 @@ pub fn pinched(g: &mut Generator, n: usize) -> (Vec<Point>, Vec<Pair>) {
     (points, pairs)
 }
 
+// What only the benchmark takes.
+
+/// The edges of the original's sheet for the same points drawn seven times as wide, shuffled. No two cross, for
+/// the drawing keeps lines, and no more can be added; but most are no edges of the sheet of the points as they are.
+pub fn stretched_edges(g: &mut Generator, points: &[Point]) -> Vec<Pair> {
+    let wide: Vec<Point> = points.iter().map(|p| (7 * p.0, p.1)).collect();
+    all_edges(g, &wide, &[])
+}
+
+/// All the edges of the original's sheet, shuffled.
+pub fn all_edges(g: &mut Generator, points: &[Point], pairs: &[Pair]) -> Vec<Pair> {
+    let mut pairs = edges_of(points, pairs);
+    shuffle(g, &mut pairs);
+    pairs
+}
+
+/// Numbers that go outwards from 0, one up, the next down.
+fn outwards(n: usize) -> impl Iterator<Item = i32> {
+    (0..n as i32 - 3).map(|k| if k % 2 == 0 { k / 2 } else { -k / 2 - 1 })
+}
+
+/// So many points on a line, from its middle outwards, one on the right, the next on the left. The triangles at
+/// the line are thin and stand side by side, and the walk from each point to the next enters all on one side of it.
+pub fn zigzag(n: usize) -> Vec<Point> {
+    let on = outwards(n).map(|k| (3 * k, -6000));
+    GREAT[2].into_iter().chain(on).collect()
+}
+
+/// So many points in two columns, in turn: the right one grows upwards and the left one downwards. Each point sees
+/// very many of the other column.
+pub fn columns(n: usize) -> Vec<Point> {
+    let on = outwards(n).map(|k| match k {
+        0.. => (2000, 2 * k - 5000),
+        _ => (-2000, 2 * k - 904),
+    });
+    GREAT[2].into_iter().chain(on).collect()
+}
+
+/// So many points on a bow that all see corner 2, in order, and the pairs from that corner to each of them, shuffled:
+/// all are edges, but a search around the corner passes very many triangles.
+pub fn wide_fan(g: &mut Generator, n: usize) -> (Vec<Point>, Vec<Pair>) {
+    let mut points = vec![(-REACH, 0), (REACH, 0), (0, REACH)];
+    let half = (n as i32 - 3) / 2;
+    points.extend((-half..n as i32 - 3 - half).map(|x| (x, 1000 - x * x / 100_000)));
+    let mut pairs: Vec<Pair> = (3..n as u32).map(|p| (2, p)).collect();
+    shuffle(g, &mut pairs);
+    (points, pairs)
+}
+
+/// So many segments over each other, the lowest first, and above them the rest of the n points in a row. All of the
+/// row see the ends of the segment that was last recovered, so that the next one crosses an edge to each of them, and
+/// each corner that its filling chooses is the last of the row.
+pub fn stack(n: usize, segments: usize) -> (Vec<Point>, Vec<Pair>) {
+    let mut points = GREAT[2].to_vec();
+    let row = (n - 3 - 2 * segments) as i32;
+    let mut pairs = Vec::new();
+    for y in 0..segments as i32 {
+        let at = points.len() as u32;
+        points.extend([(-row, y - 5000), (row, y - 5000)]);
+        pairs.push((at, at + 1));
+    }
+    let above = segments as i32 - 4999;
+    points.extend((0..row).map(|k| (2 * k - row + 1, above)));
+    (points, pairs)
+}
+
 // Figures with a fault.
 
 /// The figure with one or two faults, or by chance with none.

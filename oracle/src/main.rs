@@ -5,7 +5,9 @@
 //! `oracle figures N M` compares the original's triangles with the requirement's table and rules, on
 //! N figures of at most M points; `oracle/figures` runs it, and with the feature `ours` or `hosted` the
 //! project's cutter and its checker are asked too. `oracle times` measures the original's triangulation
-//! and, with the feature `ours`, the project's cutter; `bench/cut` runs it.
+//! and, with the feature `ours`, the project's cutter and checker, and `oracle once CALL FIGURE N` makes
+//! one of these calls N times on one of the figures; `bench/cut` runs both. `oracle replay` prints the
+//! data of the program `replay`; `oracle/replay` runs it.
 //!
 //! The exit status is 0 where nothing differs, 1 where something does and 2 on bad usage.
 
@@ -24,6 +26,7 @@ mod ours;
 mod patterns;
 mod plane;
 mod reference;
+mod replay;
 mod report;
 mod rules;
 mod table;
@@ -58,6 +61,12 @@ fn main() -> ExitCode {
     };
     match words.first().map(String::as_str) {
         Some("times") if words.len() == 1 => return times::print(SEED),
+        Some("once") if words.len() == 4 => {
+            if let Some(count) = number(3) {
+                return times::once(SEED, &words[1], &words[2], count);
+            }
+        }
+        Some("replay") if words.len() == 1 => return replay::print(),
         Some("figures") if words.len() == 3 => {
             if let (Some(count), Some(most)) = (number(1), number(2)) {
                 return figures_of(count, most as usize);
@@ -71,7 +80,7 @@ fn main() -> ExitCode {
         }
     }
     eprintln!(
-        "usage: oracle N [EMULATOR HOST], oracle figures N M or oracle times; N and M above 0"
+        "usage: oracle N [EMULATOR HOST], oracle figures N M, oracle replay, oracle times or oracle once CALL FIGURE N; N and M above 0"
     );
     ExitCode::from(2)
 }
