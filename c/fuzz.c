@@ -175,7 +175,7 @@ static void figure(list *points, list *pairs) {
 }
 
 /* ---- one figure, cut twice, and its list checked */
-static unsigned long sheets, refusals[12], rules[9];
+static unsigned long sheets, demanded, refusals[12], rules[9];
 
 static void check(list *points, list *pairs, list *triples, int is_sheet, int is_changed) {
     size_t n = points->len / 2, m = pairs->len / 2;
@@ -220,6 +220,24 @@ static uint64_t cut(list *points, list *pairs, list *out, size_t work_len) {
     see_work(&work, number, n);
     drop(&work);
     return answer;
+}
+
+/* All edges of a sheet are demanded: they are as many as a sheet of these points can have, and the sheet stays the same. */
+static void demand_all(list *points, const list *triples) {
+    size_t n = points->len / 2, m = triples->len;
+    if (m > DERGULAM_MAX_PAIRS)
+        return;
+    list pairs = make(2 * m), out = make(DERGULAM_OUT_LEN(n) + below(3));
+    /* the triples' edges from the last to the first, so that pairs go in another order than triangles */
+    for (size_t h = 0; h < m; h++) {
+        pairs.at[2 * h] = triples->at[m - 1 - h];
+        pairs.at[2 * h + 1] = triples->at[(m - 1 - h) % 3 == 2 ? m - 3 - h : m - h];
+    }
+    keep(&pairs);
+    uint64_t answer = cut(points, &pairs, &out, 64 * n + below(3));
+    see(answer == m / 3 && memcmp(out.at, triples->at, m * sizeof(uint32_t)) == 0, "a sheet whose edges are all demanded stays the same");
+    demanded++;
+    drop(&pairs), drop(&out);
 }
 
 /* makes a sheet into a list that is none */
@@ -281,6 +299,8 @@ static void one_round(void) {
         list triples = make(len);
         memcpy(triples.at, out.at, len * sizeof(uint32_t));
         check(&points, &pairs, &triples, 1, 0);
+        if (below(4) == 0)
+            demand_all(&points, &triples);
         change(&triples, n);
         check(&points, &pairs, &triples, 0, 1);
         drop(&triples);
@@ -322,7 +342,7 @@ int main(int argc, char **argv) {
     state = strtoull(argv[2], NULL, 10);
     for (round_number = 0; round_number < rounds; round_number++)
         one_round();
-    printf("fuzz: %lu rounds, %lu sheets; refusals", rounds, sheets);
+    printf("fuzz: %lu rounds, %lu sheets, %lu with all edges demanded; refusals", rounds, sheets, demanded);
     for (int k = 1; k < 12; k++)
         printf(" %lu", refusals[k]);
     printf("; lists by rule");

@@ -29,13 +29,24 @@ mod c {
             points_len: usize,
             pairs: *const u32,
             pairs_len: usize,
+            work: *mut u32,
+            work_len: usize,
         ) -> u32;
     }
 }
 
-/// The table's tests without those of the rooms: the number of the refusal, or 0 for none.
-pub fn rows(points: &[i32], pairs: &[u32]) -> u32 {
-    unsafe { c::checker_rows(points.as_ptr(), points.len(), pairs.as_ptr(), pairs.len()) }
+/// The table's tests with the room of the working area alone: the number of the refusal, or 0 for none.
+pub fn rows(points: &[i32], pairs: &[u32], work: &mut [u32]) -> u32 {
+    unsafe {
+        c::checker_rows(
+            points.as_ptr(),
+            points.len(),
+            pairs.as_ptr(),
+            pairs.len(),
+            work.as_mut_ptr(),
+            work.len(),
+        )
+    }
 }
 
 /// The cutter: the number of triples of the sheet in front of the output, or the number of the refusal,

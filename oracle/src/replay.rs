@@ -50,6 +50,10 @@ const OF_A_SHAPE: usize = 20;
 const OF_A_STEP: usize = 12;
 const OF_A_ROW: usize = 12;
 
+/// So many pairs are many: rows 9 and 10 then take the points in order, and as many refusals by them are
+/// taken once more.
+const MANY: usize = 32;
+
 /// The steps and turns of the building that the data have to show.
 const STEPS: [&str; 13] = [
     "a point inside a triangle",
@@ -106,7 +110,10 @@ fn data() -> Data {
     };
     add_sheets(&mut data);
     for row in 1..=10 {
-        add_refusals(&mut data, row);
+        add_refusals(&mut data, row, 0);
+    }
+    for row in 9..=10 {
+        add_refusals(&mut data, row, MANY);
     }
     data
 }
@@ -321,23 +328,26 @@ fn inner_edges(sheet: &[[u32; 3]]) -> Vec<(Pair, u32, u32)> {
 
 // Refusals.
 
-/// Figures that the table refuses by this row, each from another kind.
-fn add_refusals(data: &mut Data, row: u32) {
+/// Figures with so many pairs at least that the table refuses by this row, each from another kind where
+/// no number of pairs is asked for.
+fn add_refusals(data: &mut Data, row: u32, least: usize) {
+    let enough = data.rows[row as usize] + OF_A_ROW;
     let mut kinds = Vec::new();
     for number in 0.. {
-        if data.rows[row as usize] == OF_A_ROW {
+        if data.rows[row as usize] == enough {
             return;
         }
         assert!(number < 100_000, "the figures do not show every row");
         let sound = figure(number, MOST);
         let kind = sound.name.clone();
-        if kinds.contains(&kind) {
+        if least == 0 && kinds.contains(&kind) {
             continue;
         }
         let g = &mut Generator::new(!number);
         let case = refused(g, data.rows[row as usize], row, &sound);
         // The least number is beyond what the program reads as a coordinate.
-        if case.figure.points.contains(&i32::MIN)
+        if case.figure.pairs.len() < 2 * least
+            || case.figure.points.contains(&i32::MIN)
             || !matches!(case.answer, Answer::Refused(found, _) if found == row)
         {
             continue;
@@ -402,7 +412,8 @@ mod tests {
         let data = data();
         assert!(data.kinds.values().all(|count| *count >= OF_A_KIND));
         assert!(data.steps.iter().all(|count| *count >= OF_A_STEP));
-        assert!(data.rows[1..].iter().all(|count| *count == OF_A_ROW));
+        assert!(data.rows[1..9].iter().all(|count| *count == OF_A_ROW));
+        assert!(data.rows[9..].iter().all(|count| *count == 2 * OF_A_ROW));
     }
 
     #[test]

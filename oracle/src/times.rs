@@ -106,6 +106,7 @@ mod linked {
     pub struct Rows {
         points: Vec<i32>,
         pairs: Vec<u32>,
+        work: Vec<u32>,
         row: u32,
     }
 
@@ -115,12 +116,15 @@ mod linked {
         }
 
         fn prepare(&mut self, figure: &Figure) {
+            let n = figure.points.len() / 2;
             self.points = figure.points.clone();
             self.pairs = figure.pairs.clone();
+            self.work = vec![0; working_room(n)];
         }
 
         fn call(&mut self) {
-            self.row = black_box(ours::rows(black_box(&self.points), black_box(&self.pairs)));
+            let (points, pairs) = (black_box(&self.points), black_box(&self.pairs));
+            self.row = black_box(ours::rows(points, pairs, &mut self.work));
         }
     }
 

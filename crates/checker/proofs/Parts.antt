@@ -19,8 +19,9 @@ use Rattle.tables.specs.declared.Refusal.{Refusal}
 use Rattle.tables.specs.declared.Refusal.the-variants.{OddLength, Counts, Room, FarPoint, NoArea, OutsidePoint, EqualPoint, BadPair, BlockedPair, CrossingPair, StuckPair}
 use Rattle.tables.proofs.Table.{true-T}
 use Rattle.tables.proofs.Rules.{Rule1, reads-1}
-use Rattle.edges.specs.Index.{Corners, Indexed, Rest, lastOf}
-use Rattle.edges.proofs.Cleared.{cleared-length, cleared-zero, cleared-rest, cleared-over}
+use Rattle.rooms.specs.Rest.{Rest}
+use Rattle.edges.specs.Index.{Corners, Indexed, lastOf}
+use Rattle.rooms.proofs.Cleared.{cleared-length, cleared-zero, cleared-over, rest-then, rest-cleared}
 use Rattle.list_rules.proofs.Once.{not-false}
 use Rattle.checker.specs.Parts.{broken, rules12, rules345, rules678}
 
@@ -124,8 +125,7 @@ pub cleared-zeros : (k : ℕ) (w w₁ : List ℕ) → w₁ ≡ cleared k w → (
 cleared-zeros k w w₁ e p l = ap (λ (x : List ℕ). getD x p 0) e ∙ cleared-zero k w p l
 
 pub cleared-thrice : (k : ℕ) (w w₁ w₂ w₃ : List ℕ) → w₁ ≡ cleared k w → Rest k w₁ w₂ → w₃ ≡ cleared k w₂ → w₃ ≡ cleared k w
-cleared-thrice k w w₁ w₂ w₃ e r f =
-    f ∙ cleared-over k w₁ w₂ r ∙ cleared-over k w w₁ (record { size = cleared-size k w w₁ e; same = λ p l. ap (λ (x : List ℕ). getD x p 0) e ∙ cleared-rest k w p l })
+cleared-thrice k w w₁ w₂ w₃ e r f = f ∙ cleared-over k w w₂ (rest-then (rest-cleared k e) r)
 
 -- ---- the ends of the pairs
 pub ends-of : (n : ℕ) (qs : List ℕ) → length qs ≡ 2 * pairCount qs → ((k : ℕ) → k < pairCount qs → endA qs k < n) → ((k : ℕ) → k < pairCount qs → endB qs k < n) → (i : ℕ) → i < length qs → getD qs i 0 < n

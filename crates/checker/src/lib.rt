@@ -5,7 +5,7 @@ ghost use lib.ListN.{length};
 ghost use Rattle.tables.specs.Answers.{ofVerdict};
 ghost use Rattle.tables.specs.Data.{pointCount};
 ghost use Rattle.tables.specs.Verdicts.{verdict, rules, leftWork};
-ghost use Rattle.edges.specs.Index.{Rest};
+ghost use Rattle.rooms.specs.Rest.{Rest};
 ghost use Rattle.list_rules.specs.Listed.{Listed, Ends};
 ghost use Rattle.checker.specs.Parts.{broken, Sound, Zero, rules345, rules678, Indexing, Lined};
 use tables::Checked;
@@ -83,7 +83,8 @@ fn judge(points: &[i32], pairs: &[u32], list: &[u32], work: &mut [u32]) -> Verdi
 }
 
 // Refusals 1 to 10 in the table's order, 1 also for a list whose length is no multiple of 3 and 3 for the working area only; then yes, or the
-// lowest broken rule. The working area: unchanged on 1 to 3, else its first 64n numbers zero and the rest unchanged.
+// lowest broken rule. The working area: unchanged on 1 to 3, else its first 64n numbers zero and the rest unchanged. `rows` leaves it so, and
+// the rules, which begin on a cleared area, are followed by another clearing.
 pub fn check(points: &[i32], pairs: &[u32], list: &[u32], work: &mut [u32]) -> Verdict
     ensures verdict { λ r. ⌜ ofVerdict r ≡ verdict (now (points .entry)) (now (pairs .entry)) (now (list .entry)) (length (now (work .entry))) ⌝ }
     ensures work { λ _. ⌜ now (work .exit) ≡ leftWork (verdict (now (points .entry)) (now (pairs .entry)) (now (list .entry)) (length (now (work .entry)))) (pointCount (now (points .entry))) (now (work .entry)) ⌝ }
@@ -91,19 +92,12 @@ pub fn check(points: &[i32], pairs: &[u32], list: &[u32], work: &mut [u32]) -> V
     let n = points.len() / 2;
     let odd = list.len() % 3 != 0;
     let short = work.len() / 64 < n;
-    let first = checks::rows(points, pairs, odd, short);
+    let first = checks::rows(points, pairs, odd, short, work);
     match first {
-        Checked::Refused(r) => {
-            if rooms::is_early(r) {
-                return Verdict::Refused(r);
-            }
-            edges::clear(work, 64 * n);
-            Verdict::Refused(r)
-        }
+        Checked::Refused(r) => Verdict::Refused(r),
         Checked::Passed => {
-            edges::clear(work, 64 * n);
             let answer = judge(points, pairs, list, work);
-            edges::clear(work, 64 * n);
+            rooms::clear(work, 64 * n);
             answer
         }
     }

@@ -3,7 +3,7 @@ ghost use mathlib.Core.Path.{_≡_};
 ghost use mathlib.Core.Bool.{false};
 ghost use lib.ListN.{length};
 ghost use Rattle.tables.specs.Data.{pointCount};
-ghost use Rattle.tables.specs.Refusals.{rows};
+ghost use Rattle.tables.specs.Refusals.{rows, shortWork};
 ghost use Rattle.tables.specs.Verdicts.{verdict, leftWork};
 ghost use Rattle.checker_c.specs.Number.{numberOf, refusalNumber};
 use tables::Checked;
@@ -48,12 +48,14 @@ pub extern "C" fn checker_check(
     }
 }
 
-// Rows 1 to 10 alone: 0, or the refusal's number.
+// Rows 1 to 10 alone, with the working area that the rules would use: 0, or the refusal's number. It is left as `checker_check` leaves it.
 #[no_mangle]
-pub extern "C" fn checker_rows(points: &[i32], pairs: &[u32]) -> u32
-    ensures { λ r. ⌜ r ≡ numberOf (rows false false (now (points .entry)) (now (pairs .entry))) ⌝ }
+pub extern "C" fn checker_rows(points: &[i32], pairs: &[u32], work: &mut [u32]) -> u32
+    ensures answer { λ r. ⌜ r ≡ numberOf (rows false (shortWork (pointCount (now (points .entry))) (length (now (work .entry)))) (now (points .entry)) (now (pairs .entry))) ⌝ }
+    ensures work { λ _. ⌜ now (work .exit) ≡ leftWork (rows false (shortWork (pointCount (now (points .entry))) (length (now (work .entry)))) (now (points .entry)) (now (pairs .entry))) (pointCount (now (points .entry))) (now (work .entry)) ⌝ }
 {
-    let answer = checks::rows(points, pairs, false, false);
+    let short = work.len() / 64 < points.len() / 2;
+    let answer = checks::rows(points, pairs, false, short, work);
     match answer {
         Checked::Passed => 0,
         Checked::Refused(r) => refusal(r),

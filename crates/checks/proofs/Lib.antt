@@ -1,1 +1,1 @@
-pub mod Above
+mod Leaves

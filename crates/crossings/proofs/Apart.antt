@@ -22,7 +22,7 @@ use Rattle.crossings.proofs.Ranges.{Side, nil, on, side, on-pos, on-neg
 
 -- ---- orientations on both sides
 
-data Across (y z : ℤ) : Type 0 where
+pub data Across (y z : ℤ) : Type 0 where
   across : (s : Bool) → Pos (sg s y) → Pos (sg (not s) z) → Across y z
 
 to-across : (y z : ℤ) → opposed y z ≡ true → Across y z
@@ -48,10 +48,10 @@ to-across y z e = go (side y) (side z)
 -- ---- ranges with a gap
 
 -- The ends of one range all lie on one side of the ends of the other.
-data Gap (a b c d : ℤ) : Type 0 where
+pub data Gap (a b c d : ℤ) : Type 0 where
   gap : (k : Bool) → Pos (sg k (b -ℤ d)) → Pos (sg (not k) (d -ℤ a)) → Pos (sg (not k) (c -ℤ b)) → Pos (sg k (a -ℤ c)) → Gap a b c d
 
-swap : (a b : ℤ) → negℤ (a -ℤ b) ≡ b -ℤ a
+pub swap : (a b : ℤ) → negℤ (a -ℤ b) ≡ b -ℤ a
 swap a b = solve (⊝ (var 0 ⊖ var 1)) (var 1 ⊖ var 0) (a ∷ b ∷ []) tt
 
 above : (a b : ℤ) → ltZ a b ≡ true → NonNeg (b -ℤ a)
@@ -136,7 +136,7 @@ not-both false t = refl
 term : (m s t k : Bool) (o q x : ℤ) → eqB (eqB s t) k ≡ m → Pos (sg s o) → Pos (sg t q) → Pos (sg k x) → Pos (sg m (o *ℤ q *ℤ x))
 term m s t k o q x e h i j = subst (λ (b : Bool). Pos (sg b (o *ℤ q *ℤ x))) e (sg-mul (eqB s t) k (o *ℤ q) x (sg-mul s t o q h i) j)
 
-clash : (o p q r a b c d : ℤ) → o *ℤ q *ℤ (b -ℤ d) +ℤ o *ℤ r *ℤ (d -ℤ a) +ℤ p *ℤ q *ℤ (c -ℤ b) +ℤ p *ℤ r *ℤ (a -ℤ c) ≡ pos 0 → Across o p → Across q r → Gap a b c d → ⊥
+pub clash : (o p q r a b c d : ℤ) → o *ℤ q *ℤ (b -ℤ d) +ℤ o *ℤ r *ℤ (d -ℤ a) +ℤ p *ℤ q *ℤ (c -ℤ b) +ℤ p *ℤ r *ℤ (a -ℤ c) ≡ pos 0 → Across o p → Across q r → Gap a b c d → ⊥
 clash o p q r a b c d e (across s h1 h2) (across t h3 h4) (gap k g1 g2 g3 g4) =
     let m = eqB (eqB s t) k in
     sg-zero m _ e
@@ -148,7 +148,7 @@ clash o p q r a b c d e (across s h1 h2) (across t h3 h4) (gap k g1 g2 g3 g4) =
 
 -- ---- the crossing
 
-abbrev weighted : (PtE → Expr) → PtE → PtE → PtE → PtE → Expr
+abbrev pub weighted : (PtE → Expr) → PtE → PtE → PtE → PtE → Expr
 weighted f a b c d =
     orientE a b c ⊗ orientE c d a ⊗ (f b ⊖ f d) ⊕ orientE a b c ⊗ orientE c d b ⊗ (f d ⊖ f a) ⊕ orientE a b d ⊗ orientE c d a ⊗ (f c ⊖ f b) ⊕ orientE a b d ⊗ orientE c d b ⊗ (f a ⊖ f c)
 
@@ -158,7 +158,7 @@ both true false f = refl
 both false y f = refl
 
 module _ (a b c d : Pt ℤ) where
-  refuse : (Across (orient a b c) (orient a b d) → Across (orient c d a) (orient c d b) → ⊥) → crosses a b c d ≡ false
+  pub refuse : (Across (orient a b c) (orient a b d) → Across (orient c d a) (orient c d b) → ⊥) → crosses a b c d ≡ false
   unfolding crosses
   refuse f = both _ _ (λ e i. f (to-across (orient a b c) (orient a b d) e) (to-across (orient c d a) (orient c d b) i))
 

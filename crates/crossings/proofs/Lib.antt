@@ -1,4 +1,5 @@
 pub mod Ranges
 pub mod Apart
+pub mod Order
 mod Inside
 mod Ends

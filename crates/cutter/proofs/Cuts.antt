@@ -1,6 +1,6 @@
 -- What the parts of the cutter ask for and leave, put together. Assumes nothing.
 use borrow.Author.Tests.{ltb-false}
-use mathlib.Core.Bool.{Bool, true, false, cond, _||_}
+use mathlib.Core.Bool.{Bool, false, _||_}
 use mathlib.Core.List.{List}
 use mathlib.Core.Path.{_≡_, refl, sym, ap, _∙_, subst}
 use Prim.Native.Nat.{ℕ, zero, suc, _+_, _-_, _*_, _/_, _<_, _≤_}
@@ -19,10 +19,9 @@ use Rattle.tables.proofs.Figures.{figure}
 use Rattle.nets.specs.Layout.{netOf, Kept}
 use Rattle.nets.specs.Nets.{Net}
 use Rattle.nets.specs.Tilings.{Tiling}
-use Rattle.edges.specs.Index.{Rest}
-use Rattle.edges.proofs.Cleared.{cleared-over}
-use Rattle.rooms.specs.Early.{early}
-use Rattle.rooms.proofs.Rooms.{left-early, late-room, refusal-not-yes}
+use Rattle.rooms.specs.Rest.{Rest}
+use Rattle.rooms.proofs.Cleared.{cleared-over, rest-cleared}
+use Rattle.rooms.proofs.Rooms.{refusal-not-yes}
 use Rattle.sheets.specs.Sheets.{Listed, SheetWritten}
 use Rattle.sheets.proofs.Keeps.{sheet-accepted}
 use Rattle.stages.specs.Stages.{Ends, Ground}
@@ -140,30 +139,52 @@ pub passed-left : {ps : List ℤ} {qs out w out' : List ℕ} {r : Outcome} → P
 passed-left (sheet T s) = refl
 passed-left (stuck k l g e) = refl
 
+-- what passes with a working area passes with another as long
+passed-too : {ps : List ℤ} {qs out w w1 out' : List ℕ} {r : Outcome} → length w1 ≡ length w → Passed ps qs out w1 out' r → Passed ps qs out w out' r
+passed-too {ps} {qs} {out' = out'} e (sheet T s) =
+    sheet T (record {
+      accepted = subst (λ (k : ℕ). verdict ps qs (take (3 * T) out') k ≡ yes) e (s .accepted);
+      count = s .count;
+      size = s .size;
+      rest = s .rest;
+    })
+passed-too e (stuck k l g q) = stuck k l g q
+
 module _ (ps : List ℤ) (qs out w : List ℕ) {short : Bool} (i : short ≡ shortRoom (pointCount ps) (length out) (length w)) where
   same : rows false short ps qs ≡ asked ps qs (length out) (length w)
   same = ap (λ (b : Bool). rows false b ps qs) i
 
-  module _ (r : Refusal) (t : ofRefusal r ≡ rows false short ps qs) where
-    told : ofRefusal r ≡ asked ps qs (length out) (length w)
-    told = t ∙ same
+  -- where the rooms are long enough, the working area is
+  pub rows-asked : short ≡ false → 64 * pointCount ps ≤ length w
+  rows-asked e = ltb-false (length w) (64 * pointCount ps) (or-false (ltb (length out) (3 * (2 * pointCount ps - 5))) (shortWork (pointCount ps) (length w)) (sym i ∙ e) .1)
 
-    -- a refusal by the table, with what is left in the working area
-    pub refused-so : {w' : List ℕ} → w' ≡ leftWork (ofRefusal r) (pointCount ps) w → Cutting ps qs out w out w' (outcome.Refused r)
-    refused-so e = record { refused = λ n. (told, refl); passed = λ y. absurd (refusal-not-yes r (told ∙ y)); left = e }
+  -- what the rows leave in the working area
+  module _ {w1 : List ℕ} (j : w1 ≡ leftWork (rows false short ps qs) (pointCount ps) w) where
+    -- a refusal by the table
+    pub refused-so : (r : Refusal) → ofRefusal r ≡ rows false short ps qs → Cutting ps qs out w out w1 (outcome.Refused r)
+    refused-so r t = record {
+      refused = λ n. (t ∙ same, refl);
+      passed = λ y. absurd (refusal-not-yes r (t ∙ same ∙ y));
+      left = j ∙ ap (λ (p : Paper). leftWork p (pointCount ps) w) (sym t);
+    }
 
-    pub early-left : early r ≡ true → w ≡ leftWork (ofRefusal r) (pointCount ps) w
-    early-left e = sym (left-early r (pointCount ps) w ∙ ap (λ (b : Bool). cond b w (cleared (64 * pointCount ps) w)) e)
+    -- none refuses, and the working area is clear
+    module _ (t : yes ≡ rows false short ps qs) where
+      clear1 : w1 ≡ cleared (64 * pointCount ps) w
+      clear1 = j ∙ ap (λ (p : Paper). leftWork p (pointCount ps) w) (sym t)
 
-    pub late-left : early r ≡ false → {w' : List ℕ} → w' ≡ cleared (64 * pointCount ps) w → w' ≡ leftWork (ofRefusal r) (pointCount ps) w
-    late-left e j = j ∙ sym (left-early r (pointCount ps) w ∙ ap (λ (b : Bool). cond b w (cleared (64 * pointCount ps) w)) e)
+      rest1 : Rest (64 * pointCount ps) w w1
+      rest1 = rest-cleared (64 * pointCount ps) clear1
 
-    pub late-long : early r ≡ false → 64 * pointCount ps ≤ length w
-    late-long e = ltb-false (length w) (64 * pointCount ps) (or-false (ltb (length out) (3 * (2 * pointCount ps - 5))) (shortWork (pointCount ps) (length w)) (sym i ∙ late-room false short ps qs r e t) .1)
+      none-refuses : asked ps qs (length out) (length w) ≡ yes
+      none-refuses = sym (t ∙ same)
 
-  -- none refuses
-  pub none-refuses : yes ≡ rows false short ps qs → asked ps qs (length out) (length w) ≡ yes
-  none-refuses t = sym (t ∙ same)
+      pub sheet-may : asked ps qs (length out) (length w1) ≡ yes
+      sheet-may = ap (asked ps qs (length out)) (rest1 .size) ∙ none-refuses
 
-pub passed-so : (ps : List ℤ) (qs out w : List ℕ) {out' w' : List ℕ} {r : Outcome} → asked ps qs (length out) (length w) ≡ yes → Passed ps qs out w out' r → w' ≡ cleared (64 * pointCount ps) w → Cutting ps qs out w out' w' r
-passed-so ps qs out w e p j = record { refused = λ n. absurd (n e); passed = λ y. p; left = j ∙ sym (passed-left p) }
+      pub passed-so : {out' w' : List ℕ} {r : Outcome} → Passed ps qs out w1 out' r → w' ≡ cleared (64 * pointCount ps) w1 → Cutting ps qs out w out' w' r
+      passed-so p l = record {
+        refused = λ n. absurd (n none-refuses);
+        passed = λ y. passed-too (rest1 .size) p;
+        left = l ∙ cleared-over (64 * pointCount ps) w w1 rest1 ∙ sym (passed-left (passed-too (rest1 .size) p));
+      }

@@ -27,28 +27,23 @@ fn make_sheet(points: &[i32], pairs: &[u32], out: &mut [u32], work: &mut [u32]) 
     carving::clear_rows(work, n, count);
     let Pairs::Stuck(k) = recovery::recover_pairs(points, pairs, work, count) else {
         sheets::write_sheet(work, n, count, out);
-        edges::clear(work, 64 * n);
+        rooms::clear(work, 64 * n);
         return Outcome::Sheet(count);
     };
-    edges::clear(work, 64 * n);
+    rooms::clear(work, 64 * n);
     Outcome::Refused(Refusal::StuckPair(k))
 }
 
-// Cuts a figure. The output and the working area are left as document 01 says, on every return.
+// Cuts a figure. The output and the working area are left as document 01 says, on every return: `rows` leaves the working area so where it
+// refuses, and cleared where it passes the data.
 pub fn cut(points: &[i32], pairs: &[u32], out: &mut [u32], work: &mut [u32]) -> Outcome
     ensures { λ r. ⌜ Cutting (now (points .entry)) (now (pairs .entry)) (now (out .entry)) (now (work .entry)) (now (out .exit)) (now (work .exit)) r ⌝ }
 {
     let n = points.len() / 2;
     let short = rooms::is_short(n, out.len(), work.len());
-    let first = checks::rows(points, pairs, false, short);
+    let first = checks::rows(points, pairs, false, short, work);
     match first {
-        Checked::Refused(r) => {
-            if rooms::is_early(r) {
-                return Outcome::Refused(r);
-            }
-            edges::clear(work, 64 * n);
-            Outcome::Refused(r)
-        }
+        Checked::Refused(r) => Outcome::Refused(r),
         Checked::Passed => make_sheet(points, pairs, out, work),
     }
 }

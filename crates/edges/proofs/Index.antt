@@ -11,7 +11,8 @@ use lib.Dec.{eqb}
 use lib.ListN.{length, getD, set, length-set}
 use lib.Seq.{getD-set-same, getD-set-other}
 use Rattle.tables.specs.Rules.{corner}
-use Rattle.edges.specs.Index.{lastOf, lastFrom, Corners, Fits, Indexed, Rest}
+use Rattle.rooms.specs.Rest.{Rest}
+use Rattle.edges.specs.Index.{lastOf, lastFrom, Corners, Fits, Indexed}
 use Rattle.edges.proofs.Last.{last-yes, last-no}
 
 module _ (n : ℕ) (xs : List ℕ) (w : List ℕ) (h : ℕ) (low : h < length xs) (c : Corners n xs) (room : n + length xs ≤ length w) (i : Indexed n xs h w) where

@@ -1,4 +1,3 @@
-pub mod Cleared
 pub mod Last
 mod Index
 pub mod Search

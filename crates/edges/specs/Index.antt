@@ -39,8 +39,3 @@ pub record Fits (n : ℕ) (xs w : List ℕ) : Type 0 where
 pub record Indexed (n : ℕ) (xs : List ℕ) (k : ℕ) (w : List ℕ) : Type 0 where
   pub heads : (u : ℕ) → u < n → getD w u 0 ≡ lastFrom xs u k
   pub links : (h : ℕ) → h < k → getD w (n + h) 0 ≡ lastFrom xs (corner xs h) h
-
--- the numbers from place k on are those of w, and there are as many
-pub record Rest (k : ℕ) (w w′ : List ℕ) : Type 0 where
-  pub size : length w′ ≡ length w
-  pub same : (p : ℕ) → k ≤ p → getD w′ p 0 ≡ getD w p 0

@@ -4,8 +4,8 @@ ghost use mathlib.Core.Path.{_≡_};
 ghost use Prim.Native.Nat.{ℕ, _+_, _≤_, _<_, _%_};
 ghost use lib.ListN.{length, getD};
 ghost use Rattle.plane.specs.Halfedges.{nxt};
-ghost use Rattle.tables.specs.Verdicts.{cleared};
-ghost use Rattle.edges.specs.Index.{Corners, Fits, Indexed, Rest, lastEdge, foundAt};
+ghost use Rattle.rooms.specs.Rest.{Rest};
+ghost use Rattle.edges.specs.Index.{Corners, Fits, Indexed, lastEdge, foundAt};
 
 // An edge of the list by its number, or that there is none.
 pub enum Found {
@@ -19,18 +19,6 @@ pub fn next_edge(h: usize) -> usize
     ensures { λ r. ⌜ r ≡ nxt h ⌝ }
 {
     if h % 3 == 2 { h - 2 } else { h + 1 }
-}
-
-// The first k numbers become zero.
-pub fn clear(work: &mut [u32], k: usize)
-    requires { ⌜ k ≤ length (now work) ⌝ }
-    ensures { λ _. ⌜ now (work .exit) ≡ cleared k (now (work .entry)) ⌝ }
-{
-    let mut i = 0;
-    while i < k {
-        work[i] = 0;
-        i += 1;
-    }
 }
 
 // The index of the list's edges, in numbers that were zero: n heads, then a link for each edge.

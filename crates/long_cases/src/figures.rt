@@ -131,11 +131,27 @@ fn lattice_case(name: &[u8], pairs: &[u32]) {
     runs::case(name, &points, pairs, &mut out, &mut work);
 }
 
+fn put_pair(pairs: &mut [u32], k: usize, a: u32, b: u32) {
+    if k < pairs.len() / 2 {
+        pairs[2 * k] = a;
+        pairs[2 * k + 1] = b;
+    }
+}
+
+// Pairs 300, 400 and 50 are put across pairs 100, 200 and 450. So 300, 400 and 450 each cross one before them, and 300 is the lowest. Then
+// pair 495 is put across a point, and row 9 is tested before row 10.
 fn lattices() {
     lattice_case(b"a lattice of 4,096 points", &[0u32; 0]);
     let mut pairs = [0u32; 992];
     knight_pairs(&mut pairs);
     lattice_case(b"a lattice of 4,096 points with 496 pairs", &pairs);
+    put_pair(&mut pairs, 50, 3721, 3785);
+    lattice_case(b"the same, and pair 50 crosses pair 450", &pairs);
+    put_pair(&mut pairs, 400, 1761, 1697);
+    put_pair(&mut pairs, 300, 913, 977);
+    lattice_case(b"the same, and 300 crosses 100, 400 crosses 200", &pairs);
+    put_pair(&mut pairs, 495, 4028, 4030);
+    lattice_case(b"the same, and a point is inside pair 495", &pairs);
 }
 
 pub fn all() {

@@ -18,7 +18,7 @@ use Rattle.tables.proofs.Table.{T-true, near-point, all-differ}
 use Rattle.nets.specs.Layout.{rankCell}
 use Rattle.nets.proofs.Figures.{rank-below}
 use Rattle.ranks.specs.Items.{word, number, Filled, Numbered, Marked}
-use Rattle.ranks.specs.Ranked.{Ranked}
+use Rattle.ranks.specs.Ranked.{atRank, Ordered, Ranked}
 use Rattle.ranks.proofs.Words.{word-small, word-up}
 
 -- ---- n numbers below n that rise are 0 to n - 1
@@ -147,13 +147,21 @@ module _ (ps : List ℤ) (fig : Figure ps) where
     pub numbered : Numbered w2 lo n
     numbered = record { small = λ k h. is-point k h .low; apart = λ a b h g e. sym (rank-place a h) ∙ ap (rank ps) e ∙ rank-place b g }
 
-    pub ranked : (w3 : List ℕ) → Marked w2 lo n n w3 → length w3 ≡ length w → 16 * n ≤ lo → tmp + 3 * n ≤ 64 * n → Ranked ps w w3
-    ranked w3 m long room end = record {
-      size = long;
+    pub in-order : (w3 : List ℕ) → Marked w2 lo n n w3 → lo ≡ 32 * n → Ordered ps w3
+    in-order w3 m place = record {
       ranks = λ i h.
           let a = at i h in
           let e = a .here in
           let z : rank ps i ≡ a .k = ap (rank ps) (sym e) ∙ rank-place (a .k) (a .in-row) in
           ap (λ (j : ℕ). getD w3 (rankCell j) 0) (sym e) ∙ m .marked (a .k) (a .in-row) ∙ sym z;
-      rest = λ p h. m .above p (omega arith) ∙ s .above p (omega arith) ∙ f .above p (omega arith);
+      small = λ k h. rw (kept k) (is-point k h .low);
+      places = λ k h. ap (rank ps) (kept k) ∙ rank-place k h;
     }
+      where
+        -- the row stands behind the ranks, so that marking them leaves it
+        kept : (k : ℕ) → atRank n w3 k ≡ number w2 lo k
+        kept k = m .above (32 * n + 3 * k + 2) (omega arith) ∙ ap (λ (p : ℕ). getD w2 (p + 3 * k + 2) 0) (sym place)
+
+    pub ranked : (w3 : List ℕ) → Marked w2 lo n n w3 → length w3 ≡ length w → lo ≡ 32 * n → tmp + 3 * n ≤ 64 * n → Ranked ps w w3
+    ranked w3 m long place end =
+        record { size = long; ordered = in-order w3 m place; rest = λ p h. m .above p (omega arith) ∙ s .above p (omega arith) ∙ f .above p (omega arith) }

@@ -1,21 +1,15 @@
--- Row 3 as the code asks it, and what an early refusal means. Assumes nothing.
+-- Row 3 as the code asks it, and that a refusal is no yes. Assumes nothing.
 use borrow.Author.Tests.{lt-ltb, le-ltb, ltb-true, ltb-false}
-use mathlib.Core.Bool.{Bool, true, false, cond, not, _||_, true≢false}
-use mathlib.Core.List.{List}
-use mathlib.Core.Path.{_≡_, refl, sym, ap, _∙_, subst}
-use Prim.Native.Nat.{ℕ, _-_, _*_, _/_, _%_, _<_, _≤_}
+use mathlib.Core.Bool.{Bool, true, false, _||_}
+use mathlib.Core.Path.{_≡_, sym, ap, _∙_, subst}
+use Prim.Native.Nat.{ℕ, _-_, _*_, _/_, _<_, _≤_}
 use native.Mathlib.Omega.{arith}
-use lib.Dec.{eqb, ltb, leb}
-use lib.IntN.{ℤ}
-use lib.ListN.{length}
+use lib.Dec.{ltb}
 use Rattle.algebra.proofs.Tests.{by-test}
-use Rattle.tables.specs.Answers.{Paper, yes, refuses, breaks, row, ofRefusal}
-use Rattle.tables.specs.Data.{pointCount, pairCount}
-use Rattle.tables.specs.Refusals.{rows, badCounts, shortWork, shortRoom, rows4to10}
-use Rattle.tables.specs.Verdicts.{leftWork, cleared}
+use Rattle.tables.specs.Answers.{Paper, yes, refuses, breaks, ofRefusal}
+use Rattle.tables.specs.Refusals.{shortWork, shortRoom}
 use Rattle.tables.specs.declared.Refusal.{Refusal}
 use Rattle.tables.specs.declared.Refusal.the-variants.{OddLength, Counts, Room, FarPoint, NoArea, OutsidePoint, EqualPoint, BadPair, BlockedPair, CrossingPair, StuckPair}
-use Rattle.rooms.specs.Early.{early}
 
 -- ---- row 3, as the code asks it
 
@@ -49,51 +43,6 @@ short-yes n out work e = sym (ap (λ (b : Bool). b || shortWork n work) e)
 
 pub short-no : (n out work : ℕ) → ltb out (3 * (2 * n - 5)) ≡ false → ltb (work / 64) n ≡ shortRoom n out work
 short-no n out work e = work-lt work n ∙ sym (ap (λ (b : Bool). b || shortWork n work) e)
-
--- ---- the refusals
-number : Paper → ℕ
-number yes = 0
-number (refuses k i) = k
-number (breaks k) = 0
-
-early-number : (r : Refusal) → early r ≡ leb (number (ofRefusal r)) 3
-unfolding number
-early-number OddLength = refl
-early-number Counts = refl
-early-number Room = refl
-early-number (FarPoint i) = refl
-early-number NoArea = refl
-early-number (OutsidePoint i) = refl
-early-number (EqualPoint i) = refl
-early-number (BadPair k) = refl
-early-number (BlockedPair k) = refl
-early-number (CrossingPair k) = refl
-early-number (StuckPair k) = refl
-
--- what a refusal leaves in the working area
-pub left-early : (r : Refusal) (n : ℕ) (w : List ℕ) → leftWork (ofRefusal r) n w ≡ cond (early r) w (cleared (64 * n) w)
-left-early OddLength n w = refl
-left-early Counts n w = refl
-left-early Room n w = refl
-left-early (FarPoint i) n w = refl
-left-early NoArea n w = refl
-left-early (OutsidePoint i) n w = refl
-left-early (EqualPoint i) n w = refl
-left-early (BadPair k) n w = refl
-left-early (BlockedPair k) n w = refl
-left-early (CrossingPair k) n w = refl
-left-early (StuckPair k) n w = refl
-
--- a refusal after the third: the room was long enough
-pub late-room : (odd short : Bool) (ps : List ℤ) (qs : List ℕ) (r : Refusal) → early r ≡ false → ofRefusal r ≡ rows odd short ps qs → short ≡ false
-unfolding number
-late-room odd false ps qs r e h = refl
-late-room odd true ps qs r e h = absurd (true≢false (sym (early-number r ∙ ap (λ (p : Paper). leb (number p) 3) h ∙ go (not (eqb (length ps % 2) 0) || not (eqb (length qs % 2) 0) || odd) (badCounts (pointCount ps) (pairCount qs))) ∙ e))
-  where
-    go : (a b : Bool) → leb (number (row 1 a (row 2 b (row 3 true (rows4to10 ps qs))))) 3 ≡ true
-    go true b = refl
-    go false true = refl
-    go false false = refl
 
 -- the caller's test of the room is the table's
 pub short-is : (n w : ℕ) → ltb (w / 64) n ≡ shortWork n w

@@ -1,10 +1,10 @@
-// Row 3 of the refusals' table, the rooms, and which refusals come before the rooms are known to be long enough.
+// Row 3 of the refusals' table, the rooms, and the clearing of lent room.
 ghost use mathlib.Core.Path.{_≡_};
 ghost use Prim.Native.Nat.{_-_, _*_, _≤_};
 ghost use lib.Dec.{ltb};
+ghost use lib.ListN.{length};
 ghost use Rattle.tables.specs.Refusals.{shortRoom};
-ghost use Rattle.rooms.specs.Early.{early};
-use tables::Refusal;
+ghost use Rattle.tables.specs.Verdicts.{cleared};
 
 // The output has less than 3(2n - 5) numbers. The divisions here and below keep every number small.
 fn is_out_short(n: usize, out: usize) -> bool
@@ -28,21 +28,14 @@ pub fn is_short(n: usize, out: usize, work: usize) -> bool
     work / 64 < n
 }
 
-// Refusals 1 to 3, which leave the working area alone.
-pub fn is_early(r: Refusal) -> bool
-    ensures { λ e. ⌜ e ≡ early r ⌝ }
+// The first k numbers become zero.
+pub fn clear(work: &mut [u32], k: usize)
+    requires { ⌜ k ≤ length (now work) ⌝ }
+    ensures { λ _. ⌜ now (work .exit) ≡ cleared k (now (work .entry)) ⌝ }
 {
-    match r {
-        Refusal::OddLength => true,
-        Refusal::Counts => true,
-        Refusal::Room => true,
-        Refusal::FarPoint(_) => false,
-        Refusal::NoArea => false,
-        Refusal::OutsidePoint(_) => false,
-        Refusal::EqualPoint(_) => false,
-        Refusal::BadPair(_) => false,
-        Refusal::BlockedPair(_) => false,
-        Refusal::CrossingPair(_) => false,
-        Refusal::StuckPair(_) => false,
+    let mut i = 0;
+    while i < k {
+        work[i] = 0;
+        i += 1;
     }
 }

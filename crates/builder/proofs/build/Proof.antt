@@ -22,7 +22,7 @@ begin-requires : tie.Need-begin-requires Inv-loop μ-loop
 begin-requires c κs = (c .before .before .before .before .before .before .pre .0, let e = c .before .before .before .rank-points .ensures .size in let r = c .before .before .before .before .before .before .pre .1 in omega arith)
 
 loop-holds : tie.Need-loop-holds Inv-loop μ-loop
-loop-holds c = ((_, begun-stage (c .before .before .before .before .before .before .before .before .before .pre .0) (let e = c .before .before .before .before .before .before .rank-points .ensures .size in let r = c .before .before .before .before .before .before .before .before .before .pre .1 in omega arith) (c .before .before .before .before .before .before .rank-points .ensures .ranks) (c .before .before .begin .ensures)), c .before .before .before .before .before .before .before .before .before .pre .0 .enough, refl, refl, λ i l. refl)
+loop-holds c = ((_, begun-stage (c .before .before .before .before .before .before .before .before .before .pre .0) (let e = c .before .before .before .before .before .before .rank-points .ensures .size in let r = c .before .before .before .before .before .before .before .before .before .pre .1 in omega arith) (c .before .before .before .before .before .before .rank-points .ensures .ordered .ranks) (c .before .before .begin .ensures)), c .before .before .before .before .before .before .before .before .before .pre .0 .enough, refl, refl, λ i l. refl)
 
 insert-point-requires : tie.Need-insert-point-requires Inv-loop μ-loop
 insert-point-requires c κs = (c .before .before .loop .inv .0, c .before .loop-test .taken)

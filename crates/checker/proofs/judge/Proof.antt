@@ -8,7 +8,7 @@ use Rattle.tables.specs.Answers.{Paper, yes, refuses, breaks}
 use Rattle.tables.specs.Data.{pointCount}
 use Rattle.tables.specs.Rules.{rule1, rule2}
 use Rattle.tables.specs.Verdicts.{andThen, rules}
-use Rattle.edges.specs.Index.{Rest}
+use Rattle.rooms.specs.Rest.{Rest}
 use Rattle.checker.specs.Parts.{broken, Sound, Lined, rules12, rules345, rules678}
 use Rattle.checker.proofs.Parts.{length-of, in-parts, stops, passes, both-hold}
 use Rattle.checker.proofs.judge.Statement.{statement}

@@ -6,7 +6,7 @@ use native.Mathlib.Omega.{arith}
 use lib.ListN.{length, getD}
 use Rattle.tables.specs.Data.{pointCount}
 use Rattle.tables.specs.Rules.{rule6, rule7}
-use Rattle.edges.specs.Index.{Rest}
+use Rattle.rooms.specs.Rest.{Rest}
 use Rattle.list_rules.specs.Listed.{Listed, Room}
 use Rattle.list_rules.proofs.Once.{not-true, not-false}
 use Rattle.edge_rules.proofs.Rule7.{by-marks}

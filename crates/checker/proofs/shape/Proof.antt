@@ -7,7 +7,8 @@ use lib.ListN.{length, getD}
 use Rattle.tables.specs.Answers.{yes, rule}
 use Rattle.tables.specs.Data.{pointCount}
 use Rattle.tables.specs.Rules.{rule1, rule2}
-use Rattle.edges.specs.Index.{Fits, Rest}
+use Rattle.rooms.specs.Rest.{Rest}
+use Rattle.edges.specs.Index.{Fits}
 use Rattle.list_rules.specs.Listed.{Listed}
 use Rattle.list_rules.proofs.Once.{not-true, not-false}
 use Rattle.checker.specs.Parts.{Indexing}

@@ -3,7 +3,8 @@ use mathlib.Core.Path.{_≡_, refl, subst}
 use Prim.Native.Nat.{ℕ, _+_, _≤_, _-_, _<_}
 use native.Mathlib.Omega.{arith}
 use lib.ListN.{length, getD, length-set}
-use Rattle.edges.specs.Index.{Corners, Fits, Indexed, Rest}
+use Rattle.rooms.specs.Rest.{Rest}
+use Rattle.edges.specs.Index.{Corners, Fits, Indexed}
 use Rattle.edges.proofs.Index.{more-indexed, more-rest}
 use Rattle.edges.proofs.build.Statement.{statement}
 use Rattle.edges.proofs.build.Tie as tie

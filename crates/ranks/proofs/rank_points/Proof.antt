@@ -1,6 +1,6 @@
 use borrow.Author.Needs.{needs}
 use denote.Ref.{now}
-use mathlib.Core.Path.{_∙_}
+use mathlib.Core.Path.{refl, _∙_}
 use native.Mathlib.Omega.{arith}
 use Rattle.ranks.proofs.Places.{numbered, ranked}
 use Rattle.ranks.proofs.rank_points.Statement.{statement}
@@ -33,7 +33,7 @@ returns c =
     let s = fi .before .before .before in
     ranked (now (s .args .points)) (s .pre .0) _ _ (now (s .args .work)) _ _ (omega arith) (fi .fill .ensures) (so .sort .ensures)
     (λ i. omega (arith, k2 .slice-known2 .given i)) (λ i. omega (arith, k3 .slice-known3 .given i)) _ (ma .mark .ensures)
-    (ma .mark .kept .0 ∙ so .sort .kept .0 ∙ fi .fill .kept .1 .0) (omega arith) (omega arith)
+    (ma .mark .kept .0 ∙ so .sort .kept .0 ∙ fi .fill .kept .1 .0) refl (omega arith)
 
 pub rank-points-spec : {M : Type 1} → statement M
 rank-points-spec =
