@@ -1,9 +1,10 @@
 // Two tests of segments between points that are known to be near: whether a point is strictly inside a segment, and whether two
 // segments cross.
 //
-// Document 01, refusals 9 and 10, says what each call answers. These refusals try each pair with each point and with each other pair, so
-// the first tests are those that nearly always go one way. A point is seldom on the line of a segment, but may well be in its box: so
-// `in_segment_xy` asks for the orientation first. Boxes of two segments seldom overlap: so `crosses_xy` compares them first.
+// Document 01, refusals 9 and 10, says what each call answers. These refusals try each pair with many points and many other pairs, so the
+// first tests are those that nearly always go one way. A point is seldom on the line of a segment, but may well be in its box: so
+// `in_segment_xy` asks for the orientation first. Boxes of two segments seldom overlap: so `crosses_xy` compares them first, and in y before
+// x, since the callers that go by rank try only segments whose ranges of x meet.
 ghost use mathlib.Core.Path.{_≡_};
 ghost use mathlib.Core.List.{[], _∷_};
 ghost use Prim.Native.Nat.{_<_};
@@ -100,10 +101,10 @@ pub fn crosses_xy(ax: i32, ay: i32, bx: i32, by: i32, cx: i32, cy: i32, dx: i32,
     requires { ⌜ Small limit (ax ∷ ay ∷ bx ∷ by ∷ cx ∷ cy ∷ dx ∷ dy ∷ []) ⌝ }
     ensures { λ r. ⌜ r ≡ crosses (at ax ay) (at bx by) (at cx cy) (at dx dy) ⌝ }
 {
-    if ranges_apart(ax, bx, cx, dx) {
+    if ranges_apart(ay, by, cy, dy) {
         return false;
     }
-    if ranges_apart(ay, by, cy, dy) {
+    if ranges_apart(ax, bx, cx, dx) {
         return false;
     }
     if on_both_sides(ax, ay, bx, by, cx, cy, dx, dy) {

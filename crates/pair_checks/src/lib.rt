@@ -1,8 +1,9 @@
 // Refusals 8 to 10 of document 01's table, whose places are pairs: the lowest pair with a bad end, with a point strictly inside its
 // segment, and with a pair before it that it crosses. The promises are over the definitions of crate tables: Data, Refusals, Answers.
 //
-// Rows 9 and 10 try each pair with each point and with each pair before it. Their inner loops only call `in_segment` and `crosses`, whose
-// first tests nearly always go one way.
+// Rows 9 and 10 try each pair with each point and with each pair before it, which serves where there are few pairs, or so many that there is
+// no room to put them in order; crates spans and sweeps have these rows in order of rank. The inner loops only call `in_segment` and `crosses`,
+// whose first tests nearly always go one way.
 ghost use mathlib.Core.Path.{_≡_};
 ghost use Prim.Native.Nat.{_<_};
 ghost use Rattle.segments.specs.Near.{Near};

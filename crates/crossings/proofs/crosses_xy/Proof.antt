@@ -18,12 +18,12 @@ abbrev ρ : tie.Start → List ℤ
 returns : tie.Need-returns
 returns c =
     let s = c .before .before in
-    sym (apart-x _ _ _ _ (told4 (ρ s) (s .pre) (λ a b c d. apart (a .x) (b .x) (c .x) (d .x)) (c .before .ranges-apart .ensures) (c .if1 .taken)))
+    sym (apart-y _ _ _ _ (told4 (ρ s) (s .pre) (λ a b c d. apart (a .y) (b .y) (c .y) (d .y)) (c .before .ranges-apart .ensures) (c .if1 .taken)))
 
 returns-2 : tie.Need-returns-2
 returns-2 c =
     let s = c .before .before .before .before in
-    sym (apart-y _ _ _ _ (told4 (ρ s) (s .pre) (λ a b c d. apart (a .y) (b .y) (c .y) (d .y)) (c .before .ranges-apart2 .ensures) (c .if2 .taken)))
+    sym (apart-x _ _ _ _ (told4 (ρ s) (s .pre) (λ a b c d. apart (a .x) (b .x) (c .x) (d .x)) (c .before .ranges-apart2 .ensures) (c .if2 .taken)))
 
 -- These are the answers for c and d against the line through a and b, and for a and b against the line through c and d.
 sides : (c : tie.After-on-both-sides) {v : Bool} → c .on-both-sides .result ≡ v → four (λ a b c d. opposed (orient a b c) (orient a b d)) (ρ (c .before .before .before .before .before)) ≡ v
