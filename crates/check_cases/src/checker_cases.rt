@@ -12,19 +12,7 @@ fn refusal(number: u64, place: usize) {
 }
 
 fn refused(r: Refusal) {
-    match r {
-        Refusal::OddLength => refusal(1, 0),
-        Refusal::Counts => refusal(2, 0),
-        Refusal::Room => refusal(3, 0),
-        Refusal::FarPoint(i) => refusal(4, i),
-        Refusal::NoArea => refusal(5, 0),
-        Refusal::OutsidePoint(i) => refusal(6, i),
-        Refusal::EqualPoint(i) => refusal(7, i),
-        Refusal::BadPair(k) => refusal(8, k),
-        Refusal::BlockedPair(k) => refusal(9, k),
-        Refusal::CrossingPair(k) => refusal(10, k),
-        Refusal::StuckPair(k) => refusal(11, k),
-    }
+    refusal(row_numbers::number(r) as u64, row_numbers::place(r));
 }
 
 fn judged(name: &[u8], points: &[i32], pairs: &[u32], list: &[u32], work: &mut [u32]) {
@@ -510,14 +498,18 @@ fn unlisted(name: &[u8], points: &[i32], pairs: &[u32], work: &mut [u32]) {
     judged(name, points, pairs, &list, work);
 }
 
-fn most_points() {
+fn on_most_points(name: &[u8], pairs: &[u32], work: &mut [u32]) {
     let mut points = [-1i32; 8192];
     points[2] = 8192;
     points[5] = 8192;
     spread(&mut points);
+    unlisted(name, &points, pairs, work);
+}
+
+fn most_points() {
     let pairs = [0u32; 0];
     let mut work = [7u32; 262144];
-    unlisted(b"n = 4,096", &points, &pairs, &mut work);
+    on_most_points(b"n = 4,096", &pairs, &mut work);
 }
 
 fn too_many_points() {
@@ -531,43 +523,21 @@ fn too_many_points() {
 }
 
 fn too_little_room() {
-    let mut points = [-1i32; 8192];
-    points[2] = 8192;
-    points[5] = 8192;
-    spread(&mut points);
     let pairs = [0u32; 0];
     let mut work = [7u32; 262143];
-    unlisted(
-        b"n = 4,096, a working area of 64n - 1",
-        &points,
-        &pairs,
-        &mut work,
-    );
+    on_most_points(b"n = 4,096, a working area of 64n - 1", &pairs, &mut work);
 }
 
 fn most_pairs() {
-    let mut points = [-1i32; 8192];
-    points[2] = 8192;
-    points[5] = 8192;
-    spread(&mut points);
     let pairs = [0u32; 24576];
     let mut work = [7u32; 262144];
-    unlisted(
-        b"m = 12,288, all with equal ends",
-        &points,
-        &pairs,
-        &mut work,
-    );
+    on_most_points(b"m = 12,288, all with equal ends", &pairs, &mut work);
 }
 
 fn too_many_pairs() {
-    let mut points = [-1i32; 8192];
-    points[2] = 8192;
-    points[5] = 8192;
-    spread(&mut points);
     let pairs = [0u32; 24578];
     let mut work = [7u32; 262144];
-    unlisted(b"m = 12,289", &points, &pairs, &mut work);
+    on_most_points(b"m = 12,289", &pairs, &mut work);
 }
 
 pub fn all() {

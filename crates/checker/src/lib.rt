@@ -53,13 +53,13 @@ fn lines(points: &[i32], pairs: &[u32], list: &[u32], work: &mut [u32]) -> u32
     ensures { λ r. ⌜ (broken r ≡ rules678 (now (points .entry)) (now (pairs .entry)) (now (list .entry))) × Rest (64 * pointCount (now (points .entry))) (now (work .entry)) (now (work .exit)) ⌝ }
 {
     let n = points.len() / 2;
-    if !list_rules::pairs_met(pairs, list, work, n) {
+    if !pair_rules::pairs_met(pairs, list, work, n) {
         return 6;
     }
     if !edge_rules::edges_stay(points, list, work) {
         return 7;
     }
-    if list_rules::house_order(list) { 0 } else { 8 }
+    if order_rules::house_order(list) { 0 } else { 8 }
 }
 
 // The eight rules in order.

@@ -1,4 +1,4 @@
--- The number of a broken rule is at most 8, so its answer fits. Assumes nothing.
+-- The number of a broken rule is at most 8, so its answer fits; and a refusal's number is its row's. Assumes nothing.
 use mathlib.Core.Path.{_≡_, refl, subst}
 use mathlib.Core.Bool.{Bool, true, false, not, _||_}
 use mathlib.Core.List.{List}
@@ -7,13 +7,17 @@ use native.Mathlib.Omega.{arith}
 use lib.Dec.{lit≤, eqb}
 use lib.IntN.{ℤ}
 use lib.ListN.{length}
-use Rattle.tables.specs.Answers.{Paper, yes, refuses, breaks, row, rowAt, rule, lowest}
+use Rattle.tables.specs.Answers.{Paper, yes, refuses, breaks, row, rowAt, rule, lowest, ofRefusal}
 use Rattle.tables.specs.Data.{pointCount, pairCount}
 use Rattle.tables.specs.Refusals.{rows, rows8to10, rows4to10, badCounts, far, noArea, outside, again, badPair, blocked, crossing, shortWork}
 use Rattle.tables.specs.Rules.{rule1, rule2, rule3, rule4, rule5, rule6, rule7, rule8}
 use Rattle.tables.specs.Verdicts.{andThen, rules, refusals, verdict}
+use Rattle.tables.specs.declared.Refusal.{Refusal}
+use Rattle.tables.specs.declared.Refusal.the-variants.{OddLength, Counts, Room, FarPoint, NoArea, OutsidePoint, EqualPoint, BadPair, BlockedPair, CrossingPair, StuckPair}
 use Rattle.tables.specs.declared.Lowest.{Lowest}
 use Rattle.tables.specs.declared.Lowest.the-variants.{At, Nowhere}
+use Rattle.row_numbers.specs.Numbers.{numberIn}
+use Rattle.checker_c.specs.Number.{numberOf}
 
 -- ---- the rows break no rule
 None : Paper → Type 0
@@ -75,3 +79,17 @@ low-verdict ps qs xs work = go (refusals ps qs xs work) (none-rows (not (eqb (le
     go yes f k e = low-rules ps qs xs k e
     go (refuses j i) f k e = absurd (f k e)
     go (breaks j) f k e = absurd (f j refl)
+
+-- ---- the refusals
+pub of-row : (r : Refusal) → numberIn (ofRefusal r) ≡ numberOf (ofRefusal r)
+of-row OddLength = refl
+of-row Counts = refl
+of-row Room = refl
+of-row (FarPoint i) = refl
+of-row NoArea = refl
+of-row (OutsidePoint i) = refl
+of-row (EqualPoint i) = refl
+of-row (BadPair k) = refl
+of-row (BlockedPair k) = refl
+of-row (CrossingPair k) = refl
+of-row (StuckPair k) = refl

@@ -1,12 +1,8 @@
 -- An answer as one number: 0 for yes, a refusal's number, or 100 and the number of the broken rule. Definitions only.
 use Prim.Native.Nat.{ℕ, _+_}
-use Rattle.tables.specs.Answers.{Paper, yes, refuses, breaks, ofRefusal}
-use Rattle.tables.specs.declared.Refusal.{Refusal}
+use Rattle.tables.specs.Answers.{Paper, yes, refuses, breaks}
 
 abbrev pub numberOf : Paper → ℕ
 numberOf yes = 0
 numberOf (refuses k i) = k
 numberOf (breaks k) = 100 + k
-
-abbrev pub refusalNumber : Refusal → ℕ
-refusalNumber r = numberOf (ofRefusal r)

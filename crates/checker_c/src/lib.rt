@@ -5,29 +5,9 @@ ghost use lib.ListN.{length};
 ghost use Rattle.tables.specs.Data.{pointCount};
 ghost use Rattle.tables.specs.Refusals.{rows, shortWork};
 ghost use Rattle.tables.specs.Verdicts.{verdict, leftWork};
-ghost use Rattle.checker_c.specs.Number.{numberOf, refusalNumber};
+ghost use Rattle.checker_c.specs.Number.{numberOf};
 use tables::Checked;
-use tables::Refusal;
 use tables::Verdict;
-
-// A refusal's number.
-fn refusal(r: Refusal) -> u32
-    ensures { λ k. ⌜ k ≡ refusalNumber r ⌝ }
-{
-    match r {
-        Refusal::OddLength => 1,
-        Refusal::Counts => 2,
-        Refusal::Room => 3,
-        Refusal::FarPoint(_) => 4,
-        Refusal::NoArea => 5,
-        Refusal::OutsidePoint(_) => 6,
-        Refusal::EqualPoint(_) => 7,
-        Refusal::BadPair(_) => 8,
-        Refusal::BlockedPair(_) => 9,
-        Refusal::CrossingPair(_) => 10,
-        Refusal::StuckPair(_) => 11,
-    }
-}
 
 // 0 for yes, a refusal's number, or 100 and the number of the broken rule; the place is not told.
 #[no_mangle]
@@ -44,7 +24,7 @@ pub extern "C" fn checker_check(
     match answer {
         Verdict::Yes => 0,
         Verdict::Breaks(k) => 100 + k,
-        Verdict::Refused(r) => refusal(r),
+        Verdict::Refused(r) => row_numbers::number(r),
     }
 }
 
@@ -58,6 +38,6 @@ pub extern "C" fn checker_rows(points: &[i32], pairs: &[u32], work: &mut [u32]) 
     let answer = checks::rows(points, pairs, false, short, work);
     match answer {
         Checked::Passed => 0,
-        Checked::Refused(r) => refusal(r),
+        Checked::Refused(r) => row_numbers::number(r),
     }
 }

@@ -10,21 +10,21 @@ use lib.IntN.{ℤ}
 use lib.ListN.{length}
 use borrow.Author.Tests.{ltb-false}
 use Rattle.nets.specs.Building.{onRim}
-use Rattle.tables.specs.Answers.{Paper, yes as good, refuses, breaks, row, rowAt, rule, lowest, ofRefusal, ofVerdict}
+use Rattle.tables.specs.Answers.{Paper, yes as good, refuses, breaks, row, rowAt, rule, lowest, ofRefusal}
 use Rattle.tables.specs.Data.{pointCount, pairCount, point, base}
 use Rattle.tables.specs.Refusals.{rows, rows8to10, rows4to10, badCounts, far, noArea, outside, again, badPair, blocked, crossing, shortWork, shortRoom}
 use Rattle.tables.specs.Rules.{rule1, rule2, rule3, rule4, rule5, rule6, rule7, rule8}
 use Rattle.tables.specs.Verdicts.{andThen, rules, refusals, verdict}
 use Rattle.tables.specs.declared.Refusal.{Refusal}
-use Rattle.tables.specs.declared.Verdict.{Verdict}
-use Rattle.tables.specs.declared.Verdict.the-variants as Verdict
 use Rattle.tables.specs.declared.Lowest.{Lowest}
 use Rattle.tables.specs.declared.Lowest.the-variants.{At, Nowhere}
 use Rattle.tables.proofs.Table.{lowest-at, or-false}
 use Rattle.cutter.specs.Cuts.{Cutting, Passed, sheet, stuck, asked, ofOutcome}
 use Rattle.cutter.specs.declared.Outcome.{Outcome}
 use Rattle.cutter.specs.declared.Outcome.the-variants.{Sheet, Refused}
-use Rattle.exports.specs.Packed.{shift, valueIn, packed, placeOf, cutNumber, cutValue, Told}
+use Rattle.row_numbers.specs.Numbers.{valueIn, placeOf}
+use Rattle.packing.specs.Packed.{shift, packed}
+use Rattle.exports.specs.Told.{cutNumber, cutValue, Told}
 
 -- ---- the rows
 row-below : (j : ℕ) (b : Bool) (after : Paper) → valueIn after < shift → valueIn (row j b after) < shift
@@ -138,12 +138,8 @@ cut-below ps qs out work out' work' r c = go (asked-yes (asked ps qs (length out
 -- ---- the promises
 
 -- a value beside the number 0
-pub flat : (k : ℕ) → k ≡ 0 * 4294967296 + k
+flat : (k : ℕ) → k ≡ 0 * 4294967296 + k
 flat k = omega arith
-
--- a refusal of the checker has a small place
-pub verdict-place : (ps : List ℤ) (qs xs : List ℕ) (work : ℕ) (v : Verdict) (r : Refusal) → ofVerdict v ≡ verdict ps qs xs work → v ≡ Verdict.Refused r → placeOf r < shift
-verdict-place ps qs xs work v r e q = subst (λ (p : Paper). valueIn p < shift) (sym e ∙ ap ofVerdict q) (verdict-below ps qs xs work)
 
 module _ (ps : List ℤ) (qs out work out' work' : List ℕ) (o : Outcome) (c : Cutting ps qs out work out' work' o) where
   -- a refusal of the cutter has a small place

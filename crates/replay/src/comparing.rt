@@ -78,23 +78,10 @@ fn is_cleared(work: &[u32], points: usize) -> bool {
     false
 }
 
-fn of_table(number: usize, place: usize) -> Row {
-    Row { number, place }
-}
-
 fn row_of(r: Refusal) -> Row {
-    match r {
-        Refusal::OddLength => of_table(1, 0),
-        Refusal::Counts => of_table(2, 0),
-        Refusal::Room => of_table(3, 0),
-        Refusal::FarPoint(i) => of_table(4, i),
-        Refusal::NoArea => of_table(5, 0),
-        Refusal::OutsidePoint(i) => of_table(6, i),
-        Refusal::EqualPoint(i) => of_table(7, i),
-        Refusal::BadPair(k) => of_table(8, k),
-        Refusal::BlockedPair(k) => of_table(9, k),
-        Refusal::CrossingPair(k) => of_table(10, k),
-        Refusal::StuckPair(k) => of_table(11, k),
+    Row {
+        number: row_numbers::number(r) as usize,
+        place: row_numbers::place(r),
     }
 }
 

@@ -142,19 +142,7 @@ fn refusal(row: usize, place: usize) {
 }
 
 fn refused(r: Refusal) {
-    match r {
-        Refusal::OddLength => refusal(1, 0),
-        Refusal::Counts => refusal(2, 0),
-        Refusal::Room => refusal(3, 0),
-        Refusal::FarPoint(i) => refusal(4, i),
-        Refusal::NoArea => refusal(5, 0),
-        Refusal::OutsidePoint(i) => refusal(6, i),
-        Refusal::EqualPoint(i) => refusal(7, i),
-        Refusal::BadPair(k) => refusal(8, k),
-        Refusal::BlockedPair(k) => refusal(9, k),
-        Refusal::CrossingPair(k) => refusal(10, k),
-        Refusal::StuckPair(k) => refusal(11, k),
-    }
+    refusal(row_numbers::number(r) as usize, row_numbers::place(r));
 }
 
 // The count of the sheet's triples, and 0 for a refusal.

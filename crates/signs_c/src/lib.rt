@@ -12,7 +12,6 @@ use float_signs::Filtered;
 use float_signs::Intake;
 use float_signs::Vec2;
 use signs::Sign;
-use signs::WholeSign;
 
 // -1, 0 or 1
 #[no_mangle]
@@ -22,21 +21,12 @@ pub extern "C" fn signs_of_f64(v: f64) -> i32
     Sign::of_f64(v).as_i32()
 }
 
-fn number_of(answer: WholeSign) -> i32
-    ensures { λ r. ⌜ r ≡ wholeNumber answer ⌝ }
-{
-    match answer {
-        WholeSign::Known(s) => s.as_i32(),
-        WholeSign::OutOfRange => 2,
-    }
-}
-
 // -1, 0, 1, or 2 for out of range
 #[no_mangle]
 pub extern "C" fn signs_orient(ax: i32, ay: i32, bx: i32, by: i32, cx: i32, cy: i32) -> i32
     ensures { λ r. ⌜ r ≡ wholeNumber (orientAnswer limit (at ax ay) (at bx by) (at cx cy)) ⌝ }
 {
-    number_of(signs::orient_sign(ax, ay, bx, by, cx, cy))
+    sign_numbers::number_of(signs::orient_sign(ax, ay, bx, by, cx, cy))
 }
 
 // -1, 0, 1, or 2 for out of range
@@ -53,7 +43,7 @@ pub extern "C" fn signs_circle(
 ) -> i32
     ensures { λ r. ⌜ r ≡ wholeNumber (circleAnswer limit (at ax ay) (at bx by) (at cx cy) (at dx dy)) ⌝ }
 {
-    number_of(signs::circle_sign(ax, ay, bx, by, cx, cy, dx, dy))
+    sign_numbers::number_of(signs::circle_sign(ax, ay, bx, by, cx, cy, dx, dy))
 }
 
 // 0 with the whole number, or 1 for not finite, 2 for too large, 3 for a fraction, and then the number stays

@@ -5,7 +5,7 @@ use native.Mathlib.Omega.{arith}
 use lib.ListN.{length}
 use Rattle.tables.specs.Answers.{ofVerdict}
 use Rattle.checker_c.specs.Number.{numberOf}
-use Rattle.checker_c.proofs.Numbers.{low-verdict}
+use Rattle.checker_c.proofs.Numbers.{low-verdict, of-row}
 use Rattle.checker_c.proofs.checker_check.Statement.{statement}
 use Rattle.checker_c.proofs.checker_check.Tie as tie
 
@@ -24,7 +24,7 @@ returns-2 c = let d = c .before .before .before .before .before in (ap numberOf 
 returns-3 : tie.Need-returns-3
 returns-3 c =
     let d = c .before .before .before .before .before .before in
-    (c .refusal .ensures ∙ ap numberOf (ap ofVerdict (sym (c .before .before .answer2 .given .1)) ∙ d .check .ensures .0), d .check .ensures .1)
+    (c .number .ensures .0 ∙ of-row (c .before .before .answer2 .given .0 .0) ∙ ap numberOf (ap ofVerdict (sym (c .before .before .answer2 .given .1)) ∙ d .check .ensures .0), d .check .ensures .1)
 
 pub checker-check-spec : {M : Type 1} → statement M
 checker-check-spec =

@@ -10,6 +10,7 @@ use Rattle.tables.specs.Refusals.{rows, shortWork}
 use Rattle.tables.specs.Verdicts.{leftWork}
 use Rattle.rooms.proofs.Rooms.{short-is, room-is}
 use Rattle.checker_c.specs.Number.{numberOf}
+use Rattle.checker_c.proofs.Numbers.{of-row}
 use Rattle.checker_c.proofs.checker_rows.Statement.{statement}
 use Rattle.checker_c.proofs.checker_rows.Tie as tie
 
@@ -42,7 +43,7 @@ returns c = let a = c .before .before .before .before in (ap numberOf (ap ofChec
 returns-2 : tie.Need-returns-2
 returns-2 c =
     let a = c .before .before .before .before .before .before in
-    (c .refusal .ensures ∙ ap numberOf (ap ofChecked (sym (c .before .before .answer .given .1)) ∙ told a), left a)
+    (c .number .ensures .0 ∙ of-row (c .before .before .answer .given .0 .0) ∙ ap numberOf (ap ofChecked (sym (c .before .before .answer .given .1)) ∙ told a), left a)
 
 pub checker-rows-spec : {M : Type 1} → statement M
 checker-rows-spec =

@@ -7,7 +7,7 @@ use Rattle.algebra.proofs.Ring.{look}
 use Rattle.algebra.proofs.Machine.{Fit, backs-fit}
 use Rattle.plane.specs.Points.{at}
 use Rattle.signs.specs.Answers.{limit, orientAnswer, wholeNumber}
-use Rattle.exports.proofs.Numbers.{whole-read}
+use Rattle.sign_numbers.proofs.Numbers.{whole-read}
 use Rattle.exports.proofs.dergulam_orient_sign.Statement.{statement}
 use Rattle.exports.proofs.dergulam_orient_sign.Tie as tie
 

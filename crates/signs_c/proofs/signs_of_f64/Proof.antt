@@ -1,7 +1,7 @@
 use borrow.Author.Needs.{needs}
 use mathlib.Core.Path.{ap, _∙_}
 use Rattle.signs.specs.Signs.{number}
-use Rattle.signs_c.proofs.Numbers.{number-read}
+use Rattle.sign_numbers.proofs.Numbers.{number-read}
 use Rattle.signs_c.proofs.signs_of_f64.Statement.{statement}
 use Rattle.signs_c.proofs.signs_of_f64.Tie as tie
 

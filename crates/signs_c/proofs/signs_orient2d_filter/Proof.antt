@@ -1,7 +1,7 @@
 use borrow.Author.Needs.{needs}
 use mathlib.Core.Path.{sym, ap, _∙_}
 use Rattle.float_signs.specs.Filter.{filterNumber}
-use Rattle.signs_c.proofs.Numbers.{number-read}
+use Rattle.sign_numbers.proofs.Numbers.{number-read}
 use Rattle.signs_c.proofs.signs_orient2d_filter.Statement.{statement}
 use Rattle.signs_c.proofs.signs_orient2d_filter.Tie as tie
 

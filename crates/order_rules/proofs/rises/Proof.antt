@@ -1,0 +1,22 @@
+use mathlib.Core.Path.{_≡_}
+use borrow.Author.Tests.{lt-ltb, le-ltb, eq-eqb, ne-eqb}
+use Rattle.order_rules.proofs.rises.Statement.{statement}
+use Rattle.order_rules.proofs.rises.Tie as tie
+
+returns : tie.Need-returns
+returns c = rw (lt-ltb _ _ (c .if1 .taken))
+
+returns-2 : tie.Need-returns-2
+returns-2 c = rw (le-ltb _ _ (c .before .before .if1 .left), eq-eqb _ _ (c .before .if2 .taken), lt-ltb _ _ (c .if3 .taken))
+
+returns-3 : tie.Need-returns-3
+returns-3 c = rw (le-ltb _ _ (c .before .before .before .if1 .left), eq-eqb _ _ (c .before .before .if2 .taken), le-ltb _ _ (c .before .if3 .left), eq-eqb _ _ (c .if4 .taken))
+
+returns-4 : tie.Need-returns-4
+returns-4 c = rw (le-ltb _ _ (c .before .before .before .if1 .left), eq-eqb _ _ (c .before .before .if2 .taken), le-ltb _ _ (c .before .if3 .left), ne-eqb _ _ (c .if4 .left))
+
+returns-5 : tie.Need-returns-5
+returns-5 c = rw (le-ltb _ _ (c .before .if1 .left), ne-eqb _ _ (c .if2 .left))
+
+pub rises-spec : {M : Type 1} → statement M
+rises-spec = tie.close (tie.spec returns returns-2 returns-3 returns-4 returns-5)
