@@ -66,7 +66,8 @@ module _ (ρ : List ℤ) (β : List ℕ) (h : Within ρ β) where
   back-is : (w : Width) (a : Code) → raw a ρ ≡ eval (plain a) ρ → T (under w a β) → back w (raw a ρ) ≡ eval (plain a) ρ
   back-is w a e t = ap (back w) e ∙ toZ-ofZ (fits w (plain a) ρ β h t)
 
-  two : (w : Width) (a b : Code) (f : ℤ → ℤ → ℤ) → raw a ρ ≡ eval (plain a) ρ → raw b ρ ≡ eval (plain b) ρ → T (under w a β) → T (under w b β) → f (back w (raw a ρ)) (back w (raw b ρ)) ≡ f (eval (plain a) ρ) (eval (plain b) ρ)
+  two : (w : Width) (a b : Code) (f : ℤ → ℤ → ℤ) → raw a ρ ≡ eval (plain a) ρ → raw b ρ ≡ eval (plain b) ρ → T (under w a β) → T (under w b β) →
+      f (back w (raw a ρ)) (back w (raw b ρ)) ≡ f (eval (plain a) ρ) (eval (plain b) ρ)
   two w a b f d e s t = ap₂ f (back-is w a d s) (back-is w b e t)
 
   raw-is : (c : Code) → T (safe c β) → raw c ρ ≡ eval (plain c) ρ

@@ -256,7 +256,8 @@ module _ (ρ : List ℤ) where
       by3-ind (compare k l) (λ u. tm k c (add f p (tm l d q))) (λ u. tmz k (c +ℤ d) (add f p q)) (λ u. tm l d (add f (tm k c p) q))
       (λ (r : Poly). ev ρ r ≡ c *ℤ mono ρ k +ℤ ev ρ p +ℤ (d *ℤ mono ρ l +ℤ ev ρ q))
       (ap (λ (t : ℤ). c *ℤ mono ρ k +ℤ t) (ev-add f p (tm l d q)) ∙ sym (+ℤ-assoc (c *ℤ mono ρ k) (ev ρ p) (d *ℤ mono ρ l +ℤ ev ρ q)))
-      (λ e. ev-tmz k (c +ℤ d) (add f p q) ∙ ap (λ (t : ℤ). (c +ℤ d) *ℤ mono ρ k +ℤ t) (ev-add f p q) ∙ same-key c d (mono ρ k) (ev ρ p) (ev ρ q) ∙ ap (λ (n : ℕ). c *ℤ mono ρ k +ℤ ev ρ p +ℤ (d *ℤ mono ρ n +ℤ ev ρ q)) (cmp-eq k l e))
+      (λ e. ev-tmz k (c +ℤ d) (add f p q) ∙ ap (λ (t : ℤ). (c +ℤ d) *ℤ mono ρ k +ℤ t) (ev-add f p q) ∙ same-key c d (mono ρ k) (ev ρ p) (ev ρ q)
+      ∙ ap (λ (n : ℕ). c *ℤ mono ρ k +ℤ ev ρ p +ℤ (d *ℤ mono ρ n +ℤ ev ρ q)) (cmp-eq k l e))
       (ap (λ (t : ℤ). d *ℤ mono ρ l +ℤ t) (ev-add f (tm k c p) q) ∙ +ℤ-left-comm (d *ℤ mono ρ l) (c *ℤ mono ρ k +ℤ ev ρ p) (ev ρ q))
 
   W-add : (f d : ℕ) (p q : Poly) → W ρ d p → W ρ d q → W ρ d (add f p q)
@@ -369,7 +370,8 @@ module _ (ρ : List ℤ) where
   unfolding Good
   good-add a b g h = (
     ev-add 100000 (norm a) (norm b) ∙ ap₂ (λ (s t : ℤ). s +ℤ t) (g .0) (h .0),
-    W-add 100000 (max (deg a) (deg b)) (norm a) (norm b) (W-mono (deg a) (max (deg a) (deg b)) (norm a) (le-max-left (deg a) (deg b)) (g .1)) (W-mono (deg b) (max (deg a) (deg b)) (norm b) (le-max-right (deg a) (deg b)) (h .1)),
+    W-add 100000 (max (deg a) (deg b)) (norm a) (norm b) (W-mono (deg a) (max (deg a) (deg b)) (norm a) (le-max-left (deg a) (deg b)) (g .1))
+        (W-mono (deg b) (max (deg a) (deg b)) (norm b) (le-max-right (deg a) (deg b)) (h .1)),
   )
 
   good-neg : (a : Expr) → Good a → Good (⊝ a)

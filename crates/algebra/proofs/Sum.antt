@@ -125,7 +125,9 @@ thirds n P f g k h l = go (decEq (h % 3) 0) (decEq (h % 3) 1)
 -- ---- an involution
 
 -- has h: h has a mate
-module _ (n : ℕ) (has : ℕ → Bool) (mate : ℕ → ℕ) (low : (h : ℕ) → h < n → has h ≡ true → mate h < n) (has-mate : (h : ℕ) → h < n → has h ≡ true → has (mate h) ≡ true) (back : (h : ℕ) → h < n → has h ≡ true → mate (mate h) ≡ h) (φ : ℕ → ℤ) (anti : (h : ℕ) → h < n → has h ≡ true → φ (mate h) ≡ negℤ (φ h)) where
+module _ (n : ℕ) (has : ℕ → Bool) (mate : ℕ → ℕ) (low : (h : ℕ) → h < n → has h ≡ true → mate h < n)
+    (has-mate : (h : ℕ) → h < n → has h ≡ true → has (mate h) ≡ true) (back : (h : ℕ) → h < n → has h ≡ true → mate (mate h) ≡ h) (φ : ℕ → ℤ)
+    (anti : (h : ℕ) → h < n → has h ≡ true → φ (mate h) ≡ negℤ (φ h)) where
   link : ℕ → ℕ → Bool
   link h g = and (has h) (eqb (mate h) g)
 

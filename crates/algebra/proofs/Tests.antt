@@ -82,7 +82,8 @@ module _ (f : ℕ → Bool) where
   pub any-found : (n : ℕ) → anyTo n f ≡ true → (i : ℕ) × (i < n) × (f i ≡ true)
   unfolding anyTo
   any-found zero h = absurd (false≢true h)
-  any-found (suc n) h = by-test (f n) (λ t. (n, omega arith, t)) (λ t. let r = any-found n (sym (or-false (anyTo n f)) ∙ ap (λ (b : Bool). anyTo n f || b) (sym t) ∙ h) in let l = r .1 in (r .0, omega arith, r .2))
+  any-found (suc n) h = by-test (f n) (λ t. (n, omega arith, t))
+      (λ t. let r = any-found n (sym (or-false (anyTo n f)) ∙ ap (λ (b : Bool). anyTo n f || b) (sym t) ∙ h) in let l = r .1 in (r .0, omega arith, r .2))
 
 -- ---- two tests that agree
 module _ (f g : ℕ → Bool) where

@@ -47,7 +47,8 @@ module _ (Ccw : ℕ → ℕ → ℕ → Type 0) (Q : ℕ → Type 0) where
   fill-with f (gap v) = gap v
   fill-with f (node {i = i} {k = k} {j = j} w u x y v) = node (w, f i, f j, f k) u (fill-with f x) (fill-with f y) v
 
-  closing-with : {c gp slot : ℕ → ℕ} {n m q r PL PR : ℕ} {σ σ1 σ2 σ3 σ4 : Net} → ((x : ℕ) → Q (c x)) → Closing Ccw c gp slot n m q r PL PR σ σ1 σ2 σ3 σ4 → Closing Ccw' c gp slot n m q r PL PR σ σ1 σ2 σ3 σ4
+  closing-with : {c gp slot : ℕ → ℕ} {n m q r PL PR : ℕ} {σ σ1 σ2 σ3 σ4 : Net} → ((x : ℕ) → Q (c x)) →
+      Closing Ccw c gp slot n m q r PL PR σ σ1 σ2 σ3 σ4 → Closing Ccw' c gp slot n m q r PL PR σ σ1 σ2 σ3 σ4
   closing-with f a = record { left = fill-with f (a .left); right = fill-with f (a .right); some = a .some; drop = a .drop; move = a .move }
 
 -- ---- the walk
@@ -60,7 +61,8 @@ module _ (W : World) (Ccw : ℕ → ℕ → ℕ → Type 0) (Q : ℕ → Type 0)
 
   -- a half-edge of a triangle keeps its origin until the triangle is entered
   met : {n l r x : ℕ} {σ σ1 : Net} (h : ℕ) {q : ℕ} → Tiled W Ccw (F .vt) t cap σ → ((y : ℕ) → y < 3 * t → Q (σ .org y)) → Strip W F t n l r x σ σ1 → n < cap → h < 3 * t → σ1 .org h ≡ q → Q q
-  met {n} {σ = σ} {σ1 = σ1} h til f st fits low e = subst Q (sym (st .core .org h (λ d. clash (til .live h low) (ap (σ .live) (d .is) ∙ til .dead (d .at) (let b = d .high in omega arith)))) ∙ e) (f h low)
+  met {n} {σ = σ} {σ1 = σ1} h til f st fits low e = subst Q (sym
+      (st .core .org h (λ d. clash (til .live h low) (ap (σ .live) (d .is) ∙ til .dead (d .at) (let b = d .high in omega arith)))) ∙ e) (f h low)
 
   walk-met : {n l r x : ℕ} {σ σ' : Net} → Tiled W Ccw (F .vt) t cap σ → ((h : ℕ) → h < 3 * t → Q (σ .org h)) → n < cap → Walk F t n l r x σ σ' → Met l r
   walk-met til f fits (start three small a a' b c d d' e e' p p') =
@@ -93,7 +95,8 @@ module _ (W : World) (Ccw : ℕ → ℕ → ℕ → Type 0) (Q : ℕ → Type 0)
 
 -- ---- the recovery
 
-module _ (P : ℕ → Pt ℤ) (B : Side → Pt ℤ) (N : ℕ) (must : ℕ → ℕ → Type 0) (point : ℕ → Type 0) (F : Figure) (t cap n l r PL PR : ℕ) (σ σ' : Net) (b : Begun P B N must point F t cap n l r PL PR σ) (rec : Recovery (CcwP P) F t n l r PL PR σ σ') (Q : ℕ → Type 0) (was : (h : ℕ) → h < 3 * t → Q (σ .org h)) where
+module _ (P : ℕ → Pt ℤ) (B : Side → Pt ℤ) (N : ℕ) (must : ℕ → ℕ → Type 0) (point : ℕ → Type 0) (F : Figure) (t cap n l r PL PR : ℕ) (σ σ' : Net)
+    (b : Begun P B N must point F t cap n l r PL PR σ) (rec : Recovery (CcwP P) F t n l r PL PR σ σ') (Q : ℕ → Type 0) (was : (h : ℕ) → h < 3 * t → Q (σ .org h)) where
   abbrev W : World
   W = world P B N must point
 
@@ -111,7 +114,8 @@ module _ (P : ℕ → Pt ℤ) (B : Side → Pt ℤ) (N : ℕ) (must : ℕ → �
       let w = walk-met W (CcwP P) Q F t cap (b .tiled) was less (rec .walk) in
       record {
         on-left = w .on-left;
-        on-right = further (λ (z : ℕ). Q (F .cr z)) r (w .on-right) (met W (CcwP P) Q F t cap (rec .g) (b .tiled) was strip less (lows t (rec .arrive .small) (rec .arrive .three) .g-low) (rec .arrive .b-right));
+        on-right = further (λ (z : ℕ). Q (F .cr z)) r (w .on-right)
+            (met W (CcwP P) Q F t cap (rec .g) (b .tiled) was strip less (lows t (rec .arrive .small) (rec .arrive .three) .g-low) (rec .arrive .b-right));
       }
 
   tiled : Tiled W With (F .vt) t cap σ

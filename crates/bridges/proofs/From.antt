@@ -74,7 +74,8 @@ module _ (P : ℕ → Pt ℤ) (B : Side → Pt ℤ) (m' : Net) (σ' : Model) (go
     side = sided;
   }
 
-  module _ (k a b : ℕ) (slot : ℕ → ℕ) (n : ℕ) (m : Net) (σ : Model) (v : Tiling P B k m) (was : Reads m σ) (rec : Recovered P B (Marked m) (Has m) (m .tris) a b σ') (tr : Traced (Marked m) slot (m .tris) n a b σ σ') (small : Low k m') where
+  module _ (k a b : ℕ) (slot : ℕ → ℕ) (n : ℕ) (m : Net) (σ : Model) (v : Tiling P B k m) (was : Reads m σ)
+      (rec : Recovered P B (Marked m) (Has m) (m .tris) a b σ') (tr : Traced (Marked m) slot (m .tris) n a b σ σ') (small : Low k m') where
     same : m' .tris ≡ m .tris
     same = go (decLt T (m .tris)) (decLt (m .tris) T)
       where
@@ -187,4 +188,5 @@ through P B k N F cap n l r PL PR m m' σ v places rec reads =
     from-cavity P B k (F .cl 0) (F .cl (suc l)) (F .slot) n m m' (image P B m) σ v (image-reads P B m)
     (recovery-inv P B N (Marked m) (Has m) F (m .tris) cap n l r PL PR (image P B m) σ (b .tiled) (b .low) (b .fits) (b .from-a) (b .to-b) (b .room) rec .good)
     y (recovery-traced P B N (Marked m) (Has m) F (m .tris) cap n l r PL PR (image P B m) σ b rec (Marked m) (image-only P B m)) reads
-    (λ h i. subst (λ (u : ℕ). u < k) (reads .org h i) (recovery-corners P B N (Marked m) (Has m) F (m .tris) cap n l r PL PR (image P B m) σ b rec (λ (u : ℕ). u < k) (λ g j. subst (λ (u : ℕ). u < k) (sym (image-reads P B m .org g j)) (v .corners g j)) h (y .whole .low h (reads .live h i))))
+    (λ h i. subst (λ (u : ℕ). u < k) (reads .org h i) (recovery-corners P B N (Marked m) (Has m) F (m .tris) cap n l r PL PR (image P B m) σ b rec
+    (λ (u : ℕ). u < k) (λ g j. subst (λ (u : ℕ). u < k) (sym (image-reads P B m .org g j)) (v .corners g j)) h (y .whole .low h (reads .live h i))))

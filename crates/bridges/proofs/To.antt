@@ -138,7 +138,15 @@ to-begun P B k N F cap n l r PL PR m v a =
       low = y .whole .low;
       numbers = a .numbers;
       fits = a .fits;
-      room = record { PL-dead = y .dead PL (a .left-free); PR-dead = y .dead PR (a .right-free); PL-vt = a .left-apart; PR-vt = a .right-apart; PL-low = a .left-low; PR-low = a .right-low; two = a .two };
+      room = record {
+        PL-dead = y .dead PL (a .left-free);
+        PR-dead = y .dead PR (a .right-free);
+        PL-vt = a .left-apart;
+        PR-vt = a .right-apart;
+        PL-low = a .left-low;
+        PR-low = a .right-low;
+        two = a .two;
+      };
       from-a = a .from-a;
       to-b = a .to-b;
     }

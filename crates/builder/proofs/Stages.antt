@@ -65,7 +65,8 @@ module _ {ps : List ℤ} {o : Net} {k : ℕ} {w : List ℕ} {T z : ℕ} (s : Sta
     unfolding inserted
     stage-split f e = ap (λ (x : ℕ). splitIn (point ps) m x k) (less-is f ∙ ap less e)
 
-    pub split-grown : (f : ℕ) → f ≡ locate (point ps) m (point ps k) z → {w1 : List ℕ} {c many : ℕ} → Grown ps w (splitIn (point ps) m (f - 1) k) w1 c many → Grown ps w (inserted (point ps) m z k) w1 c many
+    pub split-grown : (f : ℕ) → f ≡ locate (point ps) m (point ps k) z → {w1 : List ℕ} {c many : ℕ} →
+        Grown ps w (splitIn (point ps) m (f - 1) k) w1 c many → Grown ps w (inserted (point ps) m z k) w1 c many
     split-grown f e {w1} {c} {many} g = subst (λ (x : Split). Grown ps w x w1 c many) (stage-split f e) g
 
     abbrev q : Split
@@ -128,7 +129,8 @@ begun-stage {ps} {w} {w'} f r k b = record {
 }
 
 -- the last stage
-pub stage-done : {ps : List ℤ} {o : Net} {w w' : List ℕ} {T z : ℕ} → Stage ps o (pointCount ps) w' T z → length w' ≡ length w → ((c : ℕ) → 64 * pointCount ps ≤ c → getD w' c 0 ≡ getD w c 0) → Delaunay ps w w' T
+pub stage-done : {ps : List ℤ} {o : Net} {w w' : List ℕ} {T z : ℕ} → Stage ps o (pointCount ps) w' T z → length w' ≡ length w →
+    ((c : ℕ) → 64 * pointCount ps ≤ c → getD w' c 0 ≡ getD w c 0) → Delaunay ps w w' T
 stage-done {ps} {o} {w} {w'} {T} {z} s e r = record { steps = (o, z, s .builds); built = (z, stage-built s); ranks = s .ranks; size = e; rest = r }
 
 -- ---- the base alone

@@ -43,7 +43,8 @@ module _ {n t : ℕ} {w : List ℕ} (room : Room n t w) where
   pub pushing-more : {k m s : ℕ} {w′ w″ : List ℕ} → k ≤ t → Different k (slotOf n w) → m < k → Pushing n t m w w′ → s ≡ slotOf n w′ m → w″ ≡ pushed w′ m s → Pushing n t (m + 1) w w″
   pushing-more {k} {m} {s} {w′} {w″} few d l o e i = subst (Pushing n t (m + 1) w) (sym i) (record {
     aside = aside-trans (o .aside) (pushed-aside w′ m s t (omega arith) low);
-    stack-is = pushed-stack w′ m s (let z = less in let y = wide in let x = long in omega arith) ∙ ap (λ (q : List ℕ). s ∷ q) (o .stack-is) ∙ ap (λ (x : ℕ). x ∷ downFrom (slotOf n w) m) is ∙ sym (down-more (slotOf n w) m);
+    stack-is = pushed-stack w′ m s (let z = less in let y = wide in let x = long in omega arith) ∙ ap (λ (q : List ℕ). s ∷ q) (o .stack-is)
+        ∙ ap (λ (x : ℕ). x ∷ downFrom (slotOf n w) m) is ∙ sym (down-more (slotOf n w) m);
     suspects = subst (Suspects t (pushed w′ m s)) (ap (λ (x : ℕ). x ∷ downFrom (slotOf n w) m) is ∙ sym (down-more (slotOf n w) m))
         (pushed-suspects w′ m s t (downFrom (slotOf n w) m) low (let z = less in let y = wide in let x = long in let v = low in omega arith) fresh (o .suspects));
   })

@@ -37,7 +37,9 @@ no-true : (b : Bool) → (b ≡ true → ⊥) → b ≡ false
 no-true true f = absurd (f refl)
 no-true false f = refl
 
-module _ (n n' : ℕ) (p p' : ℕ → Bool) (f f' : ℕ → ℤ) (to fro : ℕ → ℕ) (there : (h : ℕ) → h < n → p h ≡ true → Into n n' p p' f f' to h) (back : (g : ℕ) → g < n' → p' g ≡ true → Into n' n p' p f' f fro g) (one : (h : ℕ) → h < n → p h ≡ true → fro (to h) ≡ h) (other : (g : ℕ) → g < n' → p' g ≡ true → to (fro g) ≡ g) where
+module _ (n n' : ℕ) (p p' : ℕ → Bool) (f f' : ℕ → ℤ) (to fro : ℕ → ℕ) (there : (h : ℕ) → h < n → p h ≡ true → Into n n' p p' f f' to h)
+    (back : (g : ℕ) → g < n' → p' g ≡ true → Into n' n p' p f' f fro g) (one : (h : ℕ) → h < n → p h ≡ true → fro (to h) ≡ h)
+    (other : (g : ℕ) → g < n' → p' g ≡ true → to (fro g) ≡ g) where
   cells : (h g : ℕ) → h < n → g < n' → cell n p f to h g ≡ cell n' p' f' fro g h
   unfolding cell
   cells h g l k = by-bool (p h && eqb (to h) g) yes-case no-case

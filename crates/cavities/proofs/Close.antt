@@ -34,7 +34,8 @@ module _ (W : World) (Ccw : ℕ → ℕ → ℕ → Type 0) (c gp slot : ℕ →
   gap-gap h a b = let l = nm in let e = opn .gap-apart (a .at) (b .at) (omega arith) (b .high) (sym (a .is) ∙ b .is) in omega arith
 
   left-right : (h : ℕ) → Slots slot 0 q h → Slots slot q (suc r) h → ⊥
-  left-right h a b = let l = qr in let e = opn .slot-apart (a .at) (b .at) (omega arith) (b .high) (same-slot (slot (a .at)) (slot (b .at)) (a .k) (b .k) (a .three) (b .three) (sym (a .is) ∙ b .is)) in omega arith
+  left-right h a b = let l = qr in let e = opn .slot-apart (a .at) (b .at) (omega arith) (b .high)
+      (same-slot (slot (a .at)) (slot (b .at)) (a .k) (b .k) (a .three) (b .three) (sym (a .is) ∙ b .is)) in omega arith
 
   gap-is : (h x : ℕ) → Gaps gp 0 m h → Dead σ x → ¬ (h ≡ x)
   gap-is h x g d = not-same σ h x (opn .gap-live h g) d
@@ -153,8 +154,10 @@ module _ (W : World) (Ccw : ℕ → ℕ → ℕ → Type 0) (c gp slot : ℕ →
               go (yes e) d = ap (σ4 .live) e ∙ move .live-v
               go (no e) (yes l) =
                   let a : Slots slot 0 q h = record { at = y .at; k = y .k; low = y .low; high = l; three = y .three; is = y .is } in
-                  live4 h (slot-is h PL y (opn .left-out)) (slot-is h PR y (opn .right-out)) e ∙ dr .live h (slot-is h PR y (opn .right-out)) (λ g. gap-slot h (gap-right h g) y) (left-right h a) ∙ dl .slot-live h a
-              go (no e) (no l) = live4 h (slot-is h PL y (opn .left-out)) (slot-is h PR y (opn .right-out)) e ∙ dr .slot-live h (record { at = y .at; k = y .k; low = omega arith; high = y .high; three = y .three; is = y .is })
+                  live4 h (slot-is h PL y (opn .left-out)) (slot-is h PR y (opn .right-out)) e
+                  ∙ dr .live h (slot-is h PR y (opn .right-out)) (λ g. gap-slot h (gap-right h g) y) (left-right h a) ∙ dl .slot-live h a
+              go (no e) (no l) = live4 h (slot-is h PL y (opn .left-out)) (slot-is h PR y (opn .right-out)) e
+                  ∙ dr .slot-live h (record { at = y .at; k = y .k; low = omega arith; high = y .high; three = y .three; is = y .is })
 
           gap-dead : (h : ℕ) → Gaps gp 0 m h → Dead σ4 h
           gap-dead h g = live4 h (gap-is h PL g (opn .left-dead)) (gap-is h PR g (opn .right-dead)) (gap-is h (3 * slot r) g (opn .slot-dead (3 * slot r) root)) ∙ go (decLt (g .at) n)
@@ -190,7 +193,8 @@ module _ (W : World) (Ccw : ℕ → ℕ → ℕ → Type 0) (c gp slot : ℕ →
             tri = tri;
           }
 
-pub close : (W : World) (Ccw : ℕ → ℕ → ℕ → Type 0) (c gp slot : ℕ → ℕ) (n m q r PL PR : ℕ) (σ σ1 σ2 σ3 σ4 : Net) → Opened W c gp slot n m r PL PR σ → Closing Ccw c gp slot n m q r PL PR σ σ1 σ2 σ3 σ4 → Closed W Ccw gp slot m r PL PR σ σ4
+pub close : (W : World) (Ccw : ℕ → ℕ → ℕ → Type 0) (c gp slot : ℕ → ℕ) (n m q r PL PR : ℕ) (σ σ1 σ2 σ3 σ4 : Net) → Opened W c gp slot n m r PL PR σ →
+    Closing Ccw c gp slot n m q r PL PR σ σ1 σ2 σ3 σ4 → Closed W Ccw gp slot m r PL PR σ σ4
 close W Ccw c gp slot n m q r PL PR σ σ1 σ2 σ3 σ4 opn act =
     let nm = fill-part Ccw c gp slot (act .right) in
     let dl = fill-done W Ccw c gp slot (act .left) (left-ready W Ccw c gp slot n m q r PL PR σ opn (act .some) nm) in
@@ -198,7 +202,8 @@ close W Ccw c gp slot n m q r PL PR σ σ1 σ2 σ3 σ4 opn act =
     closes W Ccw c gp slot n m q r PL PR σ opn (act .some) nm σ1 dl σ2 dr (fill-top Ccw c gp slot (act .right) r refl (act .some)) σ3 (act .drop) σ4 (act .move)
 
 -- the edge from b to a is there: edge 0 of the last slot
-pub close-edge : (W : World) (Ccw : ℕ → ℕ → ℕ → Type 0) (c gp slot : ℕ → ℕ) (n m q r PL PR : ℕ) (σ σ1 σ2 σ3 σ4 : Net) → Opened W c gp slot n m r PL PR σ → Closing Ccw c gp slot n m q r PL PR σ σ1 σ2 σ3 σ4 → (σ4 .org (3 * slot r) ≡ c n) × (σ4 .dst (3 * slot r) ≡ c 0)
+pub close-edge : (W : World) (Ccw : ℕ → ℕ → ℕ → Type 0) (c gp slot : ℕ → ℕ) (n m q r PL PR : ℕ) (σ σ1 σ2 σ3 σ4 : Net) →
+    Opened W c gp slot n m r PL PR σ → Closing Ccw c gp slot n m q r PL PR σ σ1 σ2 σ3 σ4 → (σ4 .org (3 * slot r) ≡ c n) × (σ4 .dst (3 * slot r) ≡ c 0)
 close-edge W Ccw c gp slot n m q r PL PR σ σ1 σ2 σ3 σ4 opn act =
     let nm = fill-part Ccw c gp slot (act .right) in
     let dl = fill-done W Ccw c gp slot (act .left) (left-ready W Ccw c gp slot n m q r PL PR σ opn (act .some) nm) in

@@ -55,7 +55,8 @@ lt1 = omega arith
 pub lt2 : 2 < 3
 lt2 = omega arith
 
-pub tri-same : (Ccw : ℕ → ℕ → ℕ → Type 0) (σ σ' : Net) (s : ℕ) → ((h d : ℕ) → d < 3 → h ≡ 3 * s + d → σ' .org h ≡ σ .org h) → ((h d : ℕ) → d < 3 → h ≡ 3 * s + d → σ' .dst h ≡ σ .dst h) → Tri Ccw σ s → Tri Ccw σ' s
+pub tri-same : (Ccw : ℕ → ℕ → ℕ → Type 0) (σ σ' : Net) (s : ℕ) → ((h d : ℕ) → d < 3 → h ≡ 3 * s + d → σ' .org h ≡ σ .org h) →
+    ((h d : ℕ) → d < 3 → h ≡ 3 * s + d → σ' .dst h ≡ σ .dst h) → Tri Ccw σ s → Tri Ccw σ' s
 tri-same Ccw σ σ' s o d t = record {
   dst0 = d (3 * s) 0 lt0 (is0 s) ∙ t .dst0 ∙ sym (o (3 * s + 1) 1 lt1 refl);
   dst1 = d (3 * s + 1) 1 lt1 refl ∙ t .dst1 ∙ sym (o (3 * s + 2) 2 lt2 refl);
@@ -80,7 +81,8 @@ same-place a b k l e h m q = omega arith
 module _ (W : World) (Ccw : ℕ → ℕ → ℕ → Type 0) (c gp slot : ℕ → ℕ) where
   gap-done : (i p P : ℕ) (σ σ' : Net) → Ready W c gp slot i (suc i) p p P σ → Moved σ σ' (gp i) P → Done W Ccw gp slot i (suc i) p p P σ σ'
   gap-done i p P σ σ' rdy m = record {
-    inv = moved-inv W σ σ' (gp i) P (rdy .gap-live (gp i) here) (rdy .top-dead) (rdy .top-low) (rdy .top-org ∙ sym (rdy .gap-org i le-self le-self)) (rdy .top-dst ∙ sym (rdy .gap-dst i le-self le-self)) m (rdy .inv);
+    inv = moved-inv W σ σ' (gp i) P (rdy .gap-live (gp i) here) (rdy .top-dead) (rdy .top-low) (rdy .top-org ∙ sym (rdy .gap-org i le-self le-self))
+        (rdy .top-dst ∙ sym (rdy .gap-dst i le-self le-self)) m (rdy .inv);
     top-live = m .live-v;
     gap-dead = λ h g. ap (σ' .live) (g .is ∙ ap gp (only (g .at) (g .low) (g .high))) ∙ m .dead-o;
     slot-live = λ h y. none-between p (y .at) (y .low) (y .high);
@@ -96,7 +98,8 @@ module _ (W : World) (Ccw : ℕ → ℕ → ℕ → Type 0) (c gp slot : ℕ →
       only : (x : ℕ) → i ≤ x → x < suc i → x ≡ i
       only x l h = omega arith
 
-  module _ (i k j p q r P : ℕ) (σ σ0 : Net) (rdy : Ready W c gp slot i j p (suc r) P σ) (turns : Ccw (c i) (c j) (c k)) (cut : Cut σ σ0 (slot r) (c i) (c j) (c k)) (pq : p ≤ q) (qr : q ≤ r) (ik : i < k) (kj : k < j) where
+  module _ (i k j p q r P : ℕ) (σ σ0 : Net) (rdy : Ready W c gp slot i j p (suc r) P σ) (turns : Ccw (c i) (c j) (c k))
+      (cut : Cut σ σ0 (slot r) (c i) (c j) (c k)) (pq : p ≤ q) (qr : q ≤ r) (ik : i < k) (kj : k < j) where
     own : (d : ℕ) → d < 3 → Slots slot p (suc r) (3 * slot r + d)
     own d l = record { at = r; k = d; low = omega arith; high = le-self; three = l; is = refl }
 
@@ -310,7 +313,9 @@ module _ (W : World) (Ccw : ℕ → ℕ → ℕ → Type 0) (c gp slot : ℕ →
             top-live = join .live-y;
             gap-dead = gap-dead;
             slot-live = slot-live;
-            live = λ h n g y. join .live h (λ e. y (subst (Slots slot p (suc r)) (sym e) own0)) n ∙ live2 h (λ e. y (subst (Slots slot p (suc r)) (sym e) (own 2 lt2))) (λ e. y (subst (Slots slot p (suc r)) (sym e) (own 1 lt1))) g (λ z. y (in-left h z)) (λ z. y (in-right h z));
+            live = λ h n g y. join .live h (λ e. y (subst (Slots slot p (suc r)) (sym e) own0)) n
+                ∙ live2 h (λ e. y (subst (Slots slot p (suc r)) (sym e) (own 2 lt2))) (λ e. y (subst (Slots slot p (suc r)) (sym e) (own 1 lt1))) g
+                (λ z. y (in-left h z)) (λ z. y (in-right h z));
             org = λ h y. join .org h ∙ org2 h (λ z. y (in-left h z)) (λ z. y (in-right h z)) ∙ cut .org h (λ d l e. y (subst (Slots slot p (suc r)) (sym e) (own d l)));
             dst = λ h y. join .dst h ∙ dst2 h (λ z. y (in-left h z)) (λ z. y (in-right h z)) ∙ cut .dst h (λ d l e. y (subst (Slots slot p (suc r)) (sym e) (own d l)));
             tri = tri;
@@ -322,7 +327,9 @@ module _ (W : World) (Ccw : ℕ → ℕ → ℕ → Type 0) (c gp slot : ℕ →
   fill-done (node {i = i} {k = k} {j = j} {p = p} {q = q} {r = r} {P = P} {σ = σ} {σ0 = σ0} {σ1 = σ1} {σ2 = σ2} {σ3 = σ3} t w f g e) rdy =
       put-together (fill-slots Ccw c gp slot f) (fill-slots Ccw c gp slot g) (fill-part Ccw c gp slot f) (fill-part Ccw c gp slot g) (fill-done f) (fill-done g)
     where
-      put-together : p ≤ q → q ≤ r → i < k → k < j → (Ready W c gp slot i k p q (3 * slot r + 2) σ0 → Done W Ccw gp slot i k p q (3 * slot r + 2) σ0 σ1) → (Ready W c gp slot k j q r (3 * slot r + 1) σ1 → Done W Ccw gp slot k j q r (3 * slot r + 1) σ1 σ2) → Done W Ccw gp slot i j p (suc r) P σ σ3
+      put-together : p ≤ q → q ≤ r → i < k → k < j → (Ready W c gp slot i k p q (3 * slot r + 2) σ0 →
+          Done W Ccw gp slot i k p q (3 * slot r + 2) σ0 σ1) →
+          (Ready W c gp slot k j q r (3 * slot r + 1) σ1 → Done W Ccw gp slot k j q r (3 * slot r + 1) σ1 σ2) → Done W Ccw gp slot i j p (suc r) P σ σ3
       put-together pq qr ik kj ihl ihr =
           let dl = ihl (ready-left i k j p q r P σ σ0 rdy t w pq qr ik kj) in
           let dr = ihr (ready-right i k j p q r P σ σ0 rdy t w pq qr ik kj σ1 dl) in

@@ -126,6 +126,10 @@ module _ (n : ℕ) (φ : ℕ → ℕ → ℤ) (σ σ' : Net) (heir : ℕ → ℕ
       (λ g l e.
       let r = bare-from g (bare-live (σ' .live g) (σ' .has g) e) (bare-has (σ' .live g) (σ' .has g) e) in
       let a = alive (fro g) (r .live) (r .has) in
-      record { low = low (fro g) (r .live); is = bare-of (σ .live (fro g)) (σ .has (fro g)) (r .live) (r .has); same = ap₂ φ (sym (a .org) ∙ ap (σ' .org) (r .is)) (sym (a .dst) ∙ ap (σ' .dst) (r .is)) })
+      record {
+        low = low (fro g) (r .live);
+        is = bare-of (σ .live (fro g)) (σ .has (fro g)) (r .live) (r .has);
+        same = ap₂ φ (sym (a .org) ∙ ap (σ' .org) (r .is)) (sym (a .dst) ∙ ap (σ' .dst) (r .is));
+      })
       (λ h l e. one h (bare-live (σ .live h) (σ .has h) e) (bare-has (σ .live h) (σ .has h) e))
       (λ g l e. bare-from g (bare-live (σ' .live g) (σ' .has g) e) (bare-has (σ' .live g) (σ' .has g) e) .is)

@@ -80,19 +80,23 @@ module _ (May : ℕ → ℕ → Type 0) where
         let top = fill-top Ccw c gp slot (act .right) r refl (act .some) in
         let drop = act .drop in
         moved-only (live3 W Ccw c gp slot n m q r PL PR σ opn (act .some) nm σ1 dl σ2 dr top σ3 drop)
-        (drop .same (3 * slot r) .org ∙ root-org W Ccw c gp slot n m q r PL PR σ opn (act .some) nm σ1 dl σ2 dr top ∙ sym (drop .same PL .org ∙ org2 W Ccw c gp slot n m q r PL PR σ opn (act .some) nm σ1 dl σ2 dr top PL (opn .left-out) ∙ opn .left-org))
-        (drop .same (3 * slot r) .dst ∙ root-dst W Ccw c gp slot n m q r PL PR σ opn (act .some) nm σ1 dl σ2 dr top ∙ sym (drop .same PL .dst ∙ dst2 W Ccw c gp slot n m q r PL PR σ opn (act .some) nm σ1 dl σ2 dr top PL (opn .left-out) ∙ opn .left-dst))
+        (drop .same (3 * slot r) .org ∙ root-org W Ccw c gp slot n m q r PL PR σ opn (act .some) nm σ1 dl σ2 dr top
+        ∙ sym (drop .same PL .org ∙ org2 W Ccw c gp slot n m q r PL PR σ opn (act .some) nm σ1 dl σ2 dr top PL (opn .left-out) ∙ opn .left-org))
+        (drop .same (3 * slot r) .dst ∙ root-dst W Ccw c gp slot n m q r PL PR σ opn (act .some) nm σ1 dl σ2 dr top
+        ∙ sym (drop .same PL .dst ∙ dst2 W Ccw c gp slot n m q r PL PR σ opn (act .some) nm σ1 dl σ2 dr top PL (opn .left-out) ∙ opn .left-dst))
         (act .move) (dropped-only drop (fill-only (act .right) rr (fill-only (act .left) rl a)))
 
   -- ---- the walk
 
   module _ (W : World) (Ccw : ℕ → ℕ → ℕ → Type 0) (F : Figure) (t cap : ℕ) (σ : Net) (til : Tiled W Ccw (F .vt) t cap σ) where
     -- an edge of the triangle that is entered lives still when the pair that is crossed is dropped
-    beside : (n l r x f g : ℕ) (σ1 σ2 : Net) → Strip W F t n l r x σ σ1 → suc n < cap → σ1 .has x ≡ true → σ1 .mark x ≡ 0 → Three (F .slot n) (σ1 .mate x) f g → F .slot n < t → Dropped σ1 σ2 x (σ1 .mate x) → (h : ℕ) → In (F .slot n) h → ¬ (h ≡ σ1 .mate x) → Live σ2 h
+    beside : (n l r x f g : ℕ) (σ1 σ2 : Net) → Strip W F t n l r x σ σ1 → suc n < cap → σ1 .has x ≡ true → σ1 .mark x ≡ 0 →
+        Three (F .slot n) (σ1 .mate x) f g → F .slot n < t → Dropped σ1 σ2 x (σ1 .mate x) → (h : ℕ) → In (F .slot n) h → ¬ (h ≡ σ1 .mate x) → Live σ2 h
     beside n l r x f g σ1 σ2 st fits has plain three small drop h i k =
         let new = in-new W Ccw F t cap σ til n l r x f g σ1 st fits has plain three small h i in
         let not-gap = in-gap W Ccw F t cap σ til n l r x f g σ1 st fits has plain three small h i in
-        drop .live h (λ q. new (subst (Slots (F .slot) 0 n) (sym q) (st .core .exit-in))) k ∙ st .core .live h new not-gap ∙ in-live W Ccw F t cap σ til n l r x f g σ1 st fits has plain three small h i
+        drop .live h (λ q. new (subst (Slots (F .slot) 0 n) (sym q) (st .core .exit-in))) k ∙ st .core .live h new not-gap
+        ∙ in-live W Ccw F t cap σ til n l r x f g σ1 st fits has plain three small h i
 
     first-live : {f x g : ℕ} → Three (F .slot 0) f x g → F .slot 0 < t → (h : ℕ) → In (F .slot 0) h → Live σ h
     first-live three small h i = til .live h (low (F .slot 0) (i .k) h small (i .three) (i .is))

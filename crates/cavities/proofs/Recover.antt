@@ -69,7 +69,10 @@ dec-gaps gp m h = go (find-slot gp m h)
     go (yes r) = yes (record { at = r .0; low = omega arith; high = r .1; is = sym (r .2) })
     go (no f) = no (λ g. f (g .at, g .high, sym (g .is)))
 
-module _ (W : World) (Ccw : ℕ → ℕ → ℕ → Type 0) (F : Figure) (t cap : ℕ) (σ : Net) (til : Tiled W Ccw (F .vt) t cap σ) (n l r : ℕ) (fits : suc (suc n) < cap) (σ4 : Net) (opn : Open W F t n l r σ σ4) (PL PR : ℕ) (σ5 : Net) (a-same : F .cl 0 ≡ F .cr 0) (b-same : F .cl (suc l) ≡ F .cr (suc r)) (tops : Tops σ4 σ5 PL PR (F .cl 0) (F .cl (suc l))) (PL-dead : Dead σ PL) (PR-dead : Dead σ PR) (PL-vt : ¬ Gaps (F .vt) 0 (suc (suc (suc n))) PL) (PR-vt : ¬ Gaps (F .vt) 0 (suc (suc (suc n))) PR) (PL-low : PL < W .bound) (PR-low : PR < W .bound) (two : ¬ (PL ≡ PR)) where
+module _ (W : World) (Ccw : ℕ → ℕ → ℕ → Type 0) (F : Figure) (t cap : ℕ) (σ : Net) (til : Tiled W Ccw (F .vt) t cap σ) (n l r : ℕ)
+    (fits : suc (suc n) < cap) (σ4 : Net) (opn : Open W F t n l r σ σ4) (PL PR : ℕ) (σ5 : Net) (a-same : F .cl 0 ≡ F .cr 0)
+    (b-same : F .cl (suc l) ≡ F .cr (suc r)) (tops : Tops σ4 σ5 PL PR (F .cl 0) (F .cl (suc l))) (PL-dead : Dead σ PL) (PR-dead : Dead σ PR)
+    (PL-vt : ¬ Gaps (F .vt) 0 (suc (suc (suc n))) PL) (PR-vt : ¬ Gaps (F .vt) 0 (suc (suc (suc n))) PR) (PL-low : PL < W .bound) (PR-low : PR < W .bound) (two : ¬ (PL ≡ PR)) where
   pub c-left : (x : ℕ) → x < suc l → chain F l r x ≡ F .cl x
   unfolding chain
   c-left x k = pick-yes (decLt x (suc l)) (F .cl x) (F .cr (suc l + suc r - x)) k
@@ -264,14 +267,19 @@ module _ (W : World) (Ccw : ℕ → ℕ → ℕ → Type 0) (F : Figure) (t cap 
                 third a k d i j e = omega arith
 
             org : (h d : ℕ) → d < 3 → h ≡ 3 * s + d → σ9 .org h ≡ σ .org h
-            org h d i e = cl .org h (out h d i e) ∙ tops .org h (not-same σ h PL (was h d i e) PL-dead) (not-same σ h PR (was h d i e) PR-dead) ∙ opn .core .org h (λ g. clash (was h d i e) (vt-dead h g))
+            org h d i e = cl .org h (out h d i e) ∙ tops .org h (not-same σ h PL (was h d i e) PL-dead) (not-same σ h PR (was h d i e) PR-dead)
+                ∙ opn .core .org h (λ g. clash (was h d i e) (vt-dead h g))
 
             dst : (h d : ℕ) → d < 3 → h ≡ 3 * s + d → σ9 .dst h ≡ σ .dst h
-            dst h d i e = cl .dst h (out h d i e) ∙ tops .dst h (not-same σ h PL (was h d i e) PL-dead) (not-same σ h PR (was h d i e) PR-dead) ∙ opn .core .dst h (λ g. clash (was h d i e) (vt-dead h g))
+            dst h d i e = cl .dst h (out h d i e) ∙ tops .dst h (not-same σ h PL (was h d i e) PL-dead) (not-same σ h PR (was h d i e) PR-dead)
+                ∙ opn .core .dst h (λ g. clash (was h d i e) (vt-dead h g))
 
 -- ---- in one: the walk to b, the filling of both sides, and a tiling again
 
-module _ (pts : ℕ → Pt ℤ) (base : Side → Pt ℤ) (N : ℕ) (must : ℕ → ℕ → Type 0) (point : ℕ → Type 0) (F : Figure) (t cap n l r PL PR : ℕ) (σ σ' : Net) (til : Tiled (world pts base N must point) (CcwP pts) (F .vt) t cap σ) (low : (h : ℕ) → Live σ h → h < 3 * t) (fits : suc (suc n) < cap) (a-same : F .cl 0 ≡ F .cr 0) (b-same : F .cl (suc l) ≡ F .cr (suc r)) (room : Room (world pts base N must point) (F .vt) n PL PR σ) (rec : Recovery (CcwP pts) F t n l r PL PR σ σ') where
+module _ (pts : ℕ → Pt ℤ) (base : Side → Pt ℤ) (N : ℕ) (must : ℕ → ℕ → Type 0) (point : ℕ → Type 0) (F : Figure) (t cap n l r PL PR : ℕ) (σ σ' : Net)
+    (til : Tiled (world pts base N must point) (CcwP pts) (F .vt) t cap σ) (low : (h : ℕ) → Live σ h → h < 3 * t) (fits : suc (suc n) < cap)
+    (a-same : F .cl 0 ≡ F .cr 0) (b-same : F .cl (suc l) ≡ F .cr (suc r)) (room : Room (world pts base N must point) (F .vt) n PL PR σ)
+    (rec : Recovery (CcwP pts) F t n l r PL PR σ σ') where
   pub opened-net : Open (world pts base N must point) F t n l r σ (rec .σ4)
   opened-net =
       arrive (world pts base N must point) (CcwP pts) F t cap σ til n l r (rec .x) (rec .f) (rec .g) (rec .σ1) (rec .σ2) (rec .σ3) (rec .σ4)
@@ -279,20 +287,35 @@ module _ (pts : ℕ → Pt ℤ) (base : Side → Pt ℤ) (N : ℕ) (must : ℕ �
 
   -- the invariant, with the pairs that must be marked and the points that must be corners
   pub recovery-inv : Inv (world pts base N must point) σ'
-  recovery-inv = recovered-inv (world pts base N must point) (CcwP pts) F t cap σ til n l r fits (rec .σ4) opened-net PL PR (rec .σ5) a-same b-same (rec .tops) (room .PL-dead) (room .PR-dead) (room .PL-vt) (room .PR-vt) (room .PL-low) (room .PR-low) (room .two) (rec .q) (rec .σ6) (rec .σ7) (rec .σ8) σ' (rec .closing)
+  recovery-inv = recovered-inv (world pts base N must point) (CcwP pts) F t cap σ til n l r fits (rec .σ4) opened-net PL PR (rec .σ5) a-same b-same
+      (rec .tops) (room .PL-dead) (room .PR-dead) (room .PL-vt) (room .PR-vt) (room .PL-low) (room .PR-low) (room .two) (rec .q) (rec .σ6) (rec .σ7) (rec .σ8) σ' (rec .closing)
 
   pub recovery-whole : Whole pts base t σ'
   recovery-whole = record {
-    live = recovered-live (world pts base N must point) (CcwP pts) F t cap σ til n l r fits (rec .σ4) opened-net PL PR (rec .σ5) a-same b-same (rec .tops) (room .PL-dead) (room .PR-dead) (room .PL-vt) (room .PR-vt) (room .PL-low) (room .PR-low) (room .two) (rec .q) (rec .σ6) (rec .σ7) (rec .σ8) σ' (rec .closing);
-    low = recovered-low (world pts base N must point) (CcwP pts) F t cap σ til n l r fits (rec .σ4) opened-net PL PR (rec .σ5) a-same b-same (rec .tops) (room .PL-dead) (room .PR-dead) (room .PL-vt) (room .PR-vt) (room .PL-low) (room .PR-low) (room .two) (rec .q) (rec .σ6) (rec .σ7) (rec .σ8) σ' (rec .closing) low;
-    tri = recovered-tri (world pts base N must point) (CcwP pts) F t cap σ til n l r fits (rec .σ4) opened-net PL PR (rec .σ5) a-same b-same (rec .tops) (room .PL-dead) (room .PR-dead) (room .PL-vt) (room .PR-vt) (room .PL-low) (room .PR-low) (room .two) (rec .q) (rec .σ6) (rec .σ7) (rec .σ8) σ' (rec .closing);
+    live = recovered-live (world pts base N must point) (CcwP pts) F t cap σ til n l r fits (rec .σ4) opened-net PL PR (rec .σ5) a-same b-same
+        (rec .tops) (room .PL-dead) (room .PR-dead) (room .PL-vt) (room .PR-vt) (room .PL-low) (room .PR-low) (room .two) (rec .q) (rec .σ6) (rec .σ7) (rec .σ8) σ' (rec .closing);
+    low = recovered-low (world pts base N must point) (CcwP pts) F t cap σ til n l r fits (rec .σ4) opened-net PL PR (rec .σ5) a-same b-same
+        (rec .tops) (room .PL-dead) (room .PR-dead) (room .PL-vt) (room .PR-vt) (room .PL-low) (room .PR-low) (room .two) (rec .q) (rec .σ6) (rec .σ7)
+        (rec .σ8) σ' (rec .closing) low;
+    tri = recovered-tri (world pts base N must point) (CcwP pts) F t cap σ til n l r fits (rec .σ4) opened-net PL PR (rec .σ5) a-same b-same
+        (rec .tops) (room .PL-dead) (room .PR-dead) (room .PL-vt) (room .PR-vt) (room .PL-low) (room .PR-low) (room .two) (rec .q) (rec .σ6) (rec .σ7) (rec .σ8) σ' (rec .closing);
   }
 
   -- the demanded edge
   pub recovery-edge : Edge σ' (F .cl (suc l)) (F .cl 0)
   recovery-edge =
-      let e = recovered-edge (world pts base N must point) (CcwP pts) F t cap σ til n l r fits (rec .σ4) opened-net PL PR (rec .σ5) a-same b-same (rec .tops) (room .PL-dead) (room .PR-dead) (room .PL-vt) (room .PR-vt) (room .PL-low) (room .PR-low) (room .two) (rec .q) (rec .σ6) (rec .σ7) (rec .σ8) σ' (rec .closing) in
-      record { at = 3 * F .slot n; live = recovery-whole .live (3 * F .slot n) (recovered-slot (world pts base N must point) (CcwP pts) F t cap σ til n l r fits (rec .σ4) opened-net PL PR (rec .σ5) a-same b-same (rec .tops) (room .PL-dead) (room .PR-dead) (room .PL-vt) (room .PR-vt) (room .PL-low) (room .PR-low) (room .two) (rec .q) (rec .σ6) (rec .σ7) (rec .σ8) σ' (rec .closing)); org = e .0; dst = e .1 }
+      let e = recovered-edge (world pts base N must point) (CcwP pts) F t cap σ til n l r fits (rec .σ4) opened-net PL PR (rec .σ5) a-same b-same
+      (rec .tops) (room .PL-dead) (room .PR-dead) (room .PL-vt) (room .PR-vt) (room .PL-low) (room .PR-low) (room .two) (rec .q) (rec .σ6)
+      (rec .σ7) (rec .σ8) σ' (rec .closing) in
+      record {
+        at = 3 * F .slot n;
+        live = recovery-whole .live (3 * F .slot n)
+            (recovered-slot (world pts base N must point) (CcwP pts) F t cap σ til n l r fits (rec .σ4) opened-net PL PR (rec .σ5) a-same b-same
+            (rec .tops) (room .PL-dead) (room .PR-dead) (room .PL-vt) (room .PR-vt) (room .PL-low) (room .PR-low) (room .two) (rec .q) (rec .σ6)
+            (rec .σ7) (rec .σ8) σ' (rec .closing));
+        org = e .0;
+        dst = e .1;
+      }
 
   -- RECOVERY KEEPS THE TILING
   pub recovery-covers : 3 * t ≤ N → Pos (baseArea base) → Covers (meshOf pts base t σ')

@@ -108,8 +108,12 @@ module _ (W : World) (Ccw : ℕ → ℕ → ℕ → Type 0) (c gp slot : ℕ →
   Runs i j p q = (P : ℕ) (σ : Net) → Proper c i j → Ready W c gp slot i j p q P σ → (σ' : Net) × Fill Ccw c gp slot i j p q P σ σ'
 
   run-gap : (i p : ℕ) → Runs i (suc i) p p
-  run-gap i p P σ proper rdy =
-      (parkNet σ (gp i) P, gap (moves σ (parkNet σ (gp i) P) (gp i) P (rdy .top-org ∙ sym o) (rdy .top-dst ∙ sym d) (parks W σ (gp i) P (rdy .inv) (rdy .gap-live (gp i) (record { at = i; low = le-self; high = le-self; is = refl })) (rdy .top-dead) (λ e. proper i le-self le-self (sym o ∙ e ∙ d)))))
+  run-gap i p P σ proper rdy = (
+    parkNet σ (gp i) P,
+    gap (moves σ (parkNet σ (gp i) P) (gp i) P (rdy .top-org ∙ sym o) (rdy .top-dst ∙ sym d)
+        (parks W σ (gp i) P (rdy .inv) (rdy .gap-live (gp i) (record { at = i; low = le-self; high = le-self; is = refl })) (rdy .top-dead)
+        (λ e. proper i le-self le-self (sym o ∙ e ∙ d)))),
+  )
     where
       o : σ .org (gp i) ≡ c (suc i)
       o = rdy .gap-org i le-self le-self
@@ -124,14 +128,18 @@ module _ (W : World) (Ccw : ℕ → ℕ → ℕ → Type 0) (c gp slot : ℕ →
       let rl = ready-left W Ccw c gp slot i k j p q r P σ σ0 rdy t w pq qr ik kj in
       let a = f (3 * slot r + 2) σ0 (λ x l h. proper x l (omega arith)) rl in
       let dl = fill-done W Ccw c gp slot (a .1) rl in
-      let b = g (3 * slot r + 1) (a .0) (λ x l h. proper x (omega arith) h) (ready-right W Ccw c gp slot i k j p q r P σ σ0 rdy t w pq qr ik kj (a .0) dl) in
-      (joinNet (b .0) (3 * slot r) P, node {σ2 = b .0} {σ3 = joinNet (b .0) (3 * slot r) P} t w (a .1) (b .1) (joins (b .0) (3 * slot r) P (λ e. top-own W Ccw c gp slot i k j p q r P σ σ0 rdy t w pq qr ik kj 0 lt0 (sym e ∙ is0 (slot r)))))
+      let b = g (3 * slot r + 1) (a .0) (λ x l h. proper x (omega arith) h) (ready-right W Ccw c gp slot i k j p q r P σ σ0 rdy t w pq qr ik kj (a .0) dl) in (
+        joinNet (b .0) (3 * slot r) P,
+        node {σ2 = b .0} {σ3 = joinNet (b .0) (3 * slot r) P} t w (a .1) (b .1)
+            (joins (b .0) (3 * slot r) P (λ e. top-own W Ccw c gp slot i k j p q r P σ σ0 rdy t w pq qr ik kj 0 lt0 (sym e ∙ is0 (slot r)))),
+      )
 
   pub run : {i j p q : ℕ} → Plan Ccw c i j p q → Runs i j p q
   run (leaf {i = i} {p = p}) = run-gap i p
   run (fork {i = i} {k = k} {j = j} {p = p} {q = q} {r = r} t f g) = run-fork i k j p q r t (plan-slots f) (plan-slots g) (plan-part f) (plan-part g) (run f) (run g)
 
-  module _ (n m q r PL PR : ℕ) (σ : Net) (opn : Opened W c gp slot n m r PL PR σ) (qr : q ≤ r) (two : ¬ (c n ≡ c 0)) (f : Plan Ccw c 0 n 0 q) (g : Plan Ccw c n m q (suc r)) (proper : Proper c 0 m) where
+  module _ (n m q r PL PR : ℕ) (σ : Net) (opn : Opened W c gp slot n m r PL PR σ) (qr : q ≤ r) (two : ¬ (c n ≡ c 0)) (f : Plan Ccw c 0 n 0 q)
+      (g : Plan Ccw c n m q (suc r)) (proper : Proper c 0 m) where
     nm : n < m
     nm = plan-part g
 

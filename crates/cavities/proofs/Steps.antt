@@ -83,7 +83,8 @@ joined-inv W σ σ' x y dx dy lx ly o d j inv =
 
 -- ---- two partners are dropped
 
-pub dropped-inv : (W : World) (σ σ' : Net) (x y : ℕ) → Live σ x → σ .has x ≡ true → σ .mate x ≡ y → σ .mark x ≡ 0 → Kept σ (But x y) (σ .org x) → Kept σ (But x y) (σ .org y) → Dropped σ σ' x y → Inv W σ → Inv W σ'
+pub dropped-inv : (W : World) (σ σ' : Net) (x y : ℕ) → Live σ x → σ .has x ≡ true → σ .mate x ≡ y → σ .mark x ≡ 0 → Kept σ (But x y) (σ .org x) →
+    Kept σ (But x y) (σ .org y) → Dropped σ σ' x y → Inv W σ → Inv W σ'
 dropped-inv W σ σ' x y lx hx e bare kx ky d inv =
     step-inv W σ σ' self (But x y) (record {
       keep-mate = keep-mate;
@@ -146,11 +147,28 @@ parked-inv W σ σ' o v lo dv lv m inv =
     lives h l (yes e) = subst (Lives σ σ' (ren o v)) (sym e) (at (ren-yes o v o refl))
       where
         at : ren o v o ≡ v → Lives σ σ' (ren o v) o
-        at q = record { live = ap (σ' .live) q ∙ m .live-v; org = ap (σ' .org) q ∙ m .org-v; dst = ap (σ' .dst) q ∙ m .dst-v; mark = ap (σ' .mark) q ∙ m .mark-v; has = ap (σ' .has) q ∙ m .has-v; mate = λ e. ap (σ' .mate) q ∙ m .mate-v e; side = ap (σ' .side) q ∙ m .side-v }
+        at q = record {
+          live = ap (σ' .live) q ∙ m .live-v;
+          org = ap (σ' .org) q ∙ m .org-v;
+          dst = ap (σ' .dst) q ∙ m .dst-v;
+          mark = ap (σ' .mark) q
+              ∙ m .mark-v;
+          has = ap (σ' .has) q ∙ m .has-v;
+          mate = λ e. ap (σ' .mate) q ∙ m .mate-v e;
+          side = ap (σ' .side) q ∙ m .side-v;
+        }
     lives h l (no n) = at (ren-no o v h n) (not-v h l)
       where
         at : ren o v h ≡ h → ¬ (h ≡ v) → Lives σ σ' (ren o v) h
-        at q k = record { live = ap (σ' .live) q ∙ m .live h n k ∙ l; org = ap (σ' .org) q ∙ m .org h k; dst = ap (σ' .dst) q ∙ m .dst h k; mark = ap (σ' .mark) q ∙ m .mark h k; has = ap (σ' .has) q ∙ m .has h k; mate = λ e. ap (σ' .mate) q ∙ m .mate h l k e; side = ap (σ' .side) q ∙ m .side h k }
+        at q k = record {
+          live = ap (σ' .live) q ∙ m .live h n k ∙ l;
+          org = ap (σ' .org) q ∙ m .org h k;
+          dst = ap (σ' .dst) q ∙ m .dst h k;
+          mark = ap (σ' .mark) q ∙ m .mark h k;
+          has = ap (σ' .has) q ∙ m .has h k;
+          mate = λ e. ap (σ' .mate) q ∙ m .mate h l k e;
+          side = ap (σ' .side) q ∙ m .side h k;
+        }
 
     apart : (h k : ℕ) → Live σ h → Live σ k → ren o v h ≡ ren o v k → Dec (h ≡ o) → Dec (k ≡ o) → h ≡ k
     apart h k l n e (yes a) (yes b) = a ∙ sym b

@@ -28,9 +28,33 @@ three-lt : (k : ℕ) → k < 3 → ¬ (k ≡ 0) → ¬ (k ≡ 1) → k ≡ 2
 three-lt k l a b = omega arith
 
 pub parts : {t e f g : ℕ} → Three t e f g → Parts t e f g
-parts (t0 {t = t}) = record { in-e = in0 t; in-f = in1 t; in-g = in2 t; ef = λ q. omega arith; fg = λ q. omega arith; eg = λ q. omega arith; all = λ h i a b. let l = i .three in let q = i .is in omega arith }
-parts (t1 {t = t}) = record { in-e = in1 t; in-f = in2 t; in-g = in0 t; ef = λ q. omega arith; fg = λ q. omega arith; eg = λ q. omega arith; all = λ h i a b. let l = i .three in let q = i .is in omega arith }
-parts (t2 {t = t}) = record { in-e = in2 t; in-f = in0 t; in-g = in1 t; ef = λ q. omega arith; fg = λ q. omega arith; eg = λ q. omega arith; all = λ h i a b. let l = i .three in let q = i .is in omega arith }
+parts (t0 {t = t}) = record {
+  in-e = in0 t;
+  in-f = in1 t;
+  in-g = in2 t;
+  ef = λ q. omega arith;
+  fg = λ q. omega arith;
+  eg = λ q. omega arith;
+  all = λ h i a b. let l = i .three in let q = i .is in omega arith;
+}
+parts (t1 {t = t}) = record {
+  in-e = in1 t;
+  in-f = in2 t;
+  in-g = in0 t;
+  ef = λ q. omega arith;
+  fg = λ q. omega arith;
+  eg = λ q. omega arith;
+  all = λ h i a b. let l = i .three in let q = i .is in omega arith;
+}
+parts (t2 {t = t}) = record {
+  in-e = in2 t;
+  in-f = in0 t;
+  in-g = in1 t;
+  ef = λ q. omega arith;
+  fg = λ q. omega arith;
+  eg = λ q. omega arith;
+  all = λ h i a b. let l = i .three in let q = i .is in omega arith;
+}
 
 pub parts-swap : {t e f g : ℕ} → Parts t e f g → Parts t e g f
 parts-swap {t} {e} {f} {g} p = record { in-e = p .in-e; in-f = p .in-g; in-g = p .in-f; ef = p .eg; fg = λ q. p .fg (sym q); eg = p .ef; all = λ h i a b. go h i a b (ℕ-discrete h f) }
@@ -52,7 +76,10 @@ turn t2 = t0
 real : (t s k : ℕ) → s < t → k < 3 → 3 * s + k < 3 * t
 real t s k l h = omega arith
 
-module _ (W : World) (Ccw : ℕ → ℕ → ℕ → Type 0) (slot vt : ℕ → ℕ) (t cap n x : ℕ) (σ σ1 σ2 σ3 : Net) (til : Tiled W Ccw vt t cap σ) (cor : Core W slot vt t n x σ σ1) (fits : suc n < cap) (has : σ1 .has x ≡ true) (plain : σ1 .mark x ≡ 0) (o y : ℕ) (prt : Parts (slot n) (σ1 .mate x) o y) (small : slot n < t) (open' : ¬ (σ1 .org x ≡ σ1 .dst x)) (kx : Kept σ1 (But x (σ1 .mate x)) (σ1 .org x)) (ky : Kept σ1 (But x (σ1 .mate x)) (σ1 .org (σ1 .mate x))) (drop : Dropped σ1 σ2 x (σ1 .mate x)) (park : Parked σ2 σ3 o (vt (suc n))) where
+module _ (W : World) (Ccw : ℕ → ℕ → ℕ → Type 0) (slot vt : ℕ → ℕ) (t cap n x : ℕ) (σ σ1 σ2 σ3 : Net) (til : Tiled W Ccw vt t cap σ)
+    (cor : Core W slot vt t n x σ σ1) (fits : suc n < cap) (has : σ1 .has x ≡ true) (plain : σ1 .mark x ≡ 0) (o y : ℕ)
+    (prt : Parts (slot n) (σ1 .mate x) o y) (small : slot n < t) (open' : ¬ (σ1 .org x ≡ σ1 .dst x)) (kx : Kept σ1 (But x (σ1 .mate x)) (σ1 .org x))
+    (ky : Kept σ1 (But x (σ1 .mate x)) (σ1 .org (σ1 .mate x))) (drop : Dropped σ1 σ2 x (σ1 .mate x)) (park : Parked σ2 σ3 o (vt (suc n))) where
   e : ℕ
   e = σ1 .mate x
 
@@ -178,14 +205,18 @@ module _ (W : World) (Ccw : ℕ → ℕ → ℕ → Type 0) (slot vt : ℕ → �
     slot-real = small';
     slot-apart = apart;
     gap-live = gap-live;
-    live = λ h s g. park .live h (λ q. s (in-slots h (subst (In (slot n)) (sym q) (prt .in-f)))) (λ q. g (subst (Gaps vt 0 (suc (suc n))) (sym q) gap-new)) ∙ drop .live h (λ q. s (old-slots h (subst (Slots slot 0 n) (sym q) (cor .exit-in)))) (λ q. s (in-slots h (subst (In (slot n)) (sym q) (prt .in-e)))) ∙ cor .live h (λ z. s (old-slots h z)) (λ z. g (gap-less h z));
+    live = λ h s g. park .live h (λ q. s (in-slots h (subst (In (slot n)) (sym q) (prt .in-f))))
+        (λ q. g (subst (Gaps vt 0 (suc (suc n))) (sym q) gap-new))
+        ∙ drop .live h (λ q. s (old-slots h (subst (Slots slot 0 n) (sym q) (cor .exit-in))))
+        (λ q. s (in-slots h (subst (In (slot n)) (sym q) (prt .in-e)))) ∙ cor .live h (λ z. s (old-slots h z)) (λ z. g (gap-less h z));
     org = λ h g. park .org h (λ q. g (subst (Gaps vt 0 (suc (suc n))) (sym q) gap-new)) ∙ drop .same h .org ∙ cor .org h (λ z. g (gap-less h z));
     dst = λ h g. park .dst h (λ q. g (subst (Gaps vt 0 (suc (suc n))) (sym q) gap-new)) ∙ drop .same h .dst ∙ cor .dst h (λ z. g (gap-less h z));
   }
 
 -- ---- the first triangle
 
-module _ (W : World) (Ccw : ℕ → ℕ → ℕ → Type 0) (slot vt : ℕ → ℕ) (t cap x g f : ℕ) (σ σ1 σ2 : Net) (til : Tiled W Ccw vt t cap σ) (fits : 1 < cap) (prt : Parts (slot 0) x g f) (small : slot 0 < t) (park : Parked σ σ1 g (vt 0)) (park' : Parked σ1 σ2 f (vt 1)) where
+module _ (W : World) (Ccw : ℕ → ℕ → ℕ → Type 0) (slot vt : ℕ → ℕ) (t cap x g f : ℕ) (σ σ1 σ2 : Net) (til : Tiled W Ccw vt t cap σ) (fits : 1 < cap)
+    (prt : Parts (slot 0) x g f) (small : slot 0 < t) (park : Parked σ σ1 g (vt 0)) (park' : Parked σ1 σ2 f (vt 1)) where
   one-real : (h : ℕ) → In (slot 0) h → Live σ h
   one-real h i = til .live h (subst (λ (k : ℕ). k < 3 * t) (sym (i .is)) (real t (slot 0) (i .k) small (i .three)))
 
@@ -245,14 +276,16 @@ module _ (W : World) (Ccw : ℕ → ℕ → ℕ → Type 0) (slot vt : ℕ → �
     slot-real = λ y l. let q : 0 ≡ y = omega arith in subst (λ (z : ℕ). slot z < t) q small;
     slot-apart = λ y z l m q. omega arith;
     gap-live = one-live;
-    live = λ h s i. park' .live h (λ q. s (to-zero h (subst (In (slot 0)) (sym q) (prt .in-g)))) (λ q. i (subst (Gaps vt 0 2) (sym q) gap1)) ∙ park .live h (λ q. s (to-zero h (subst (In (slot 0)) (sym q) (prt .in-f)))) (λ q. i (subst (Gaps vt 0 2) (sym q) gap0));
+    live = λ h s i. park' .live h (λ q. s (to-zero h (subst (In (slot 0)) (sym q) (prt .in-g)))) (λ q. i (subst (Gaps vt 0 2) (sym q) gap1))
+        ∙ park .live h (λ q. s (to-zero h (subst (In (slot 0)) (sym q) (prt .in-f)))) (λ q. i (subst (Gaps vt 0 2) (sym q) gap0));
     org = λ h i. park' .org h (λ q. i (subst (Gaps vt 0 2) (sym q) gap1)) ∙ park .org h (λ q. i (subst (Gaps vt 0 2) (sym q) gap0));
     dst = λ h i. park' .dst h (λ q. i (subst (Gaps vt 0 2) (sym q) gap1)) ∙ park .dst h (λ q. i (subst (Gaps vt 0 2) (sym q) gap0));
   }
 
 -- ---- the last edge is parked, too: the cavity is open
 
-module _ (W : World) (Ccw : ℕ → ℕ → ℕ → Type 0) (slot vt : ℕ → ℕ) (t cap n x : ℕ) (σ σ1 σ2 : Net) (til : Tiled W Ccw vt t cap σ) (cor : Core W slot vt t n x σ σ1) (fits : suc n < cap) (park : Parked σ1 σ2 x (vt (suc n))) where
+module _ (W : World) (Ccw : ℕ → ℕ → ℕ → Type 0) (slot vt : ℕ → ℕ) (t cap n x : ℕ) (σ σ1 σ2 : Net) (til : Tiled W Ccw vt t cap σ)
+    (cor : Core W slot vt t n x σ σ1) (fits : suc n < cap) (park : Parked σ1 σ2 x (vt (suc n))) where
   last-real : (h : ℕ) → Slots slot 0 n h → Live σ h
   last-real h s = til .live h (subst (λ (k : ℕ). k < 3 * t) (sym (s .is)) (real t (slot (s .at)) (s .k) (cor .slot-real (s .at) (s .high)) (s .three)))
 

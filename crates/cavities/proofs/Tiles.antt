@@ -45,9 +45,11 @@ module _ (pts : ℕ → Pt ℤ) (base : Side → Pt ℤ) where
   unfolding rim
   area-rim t n σ fits w good =
       sum-cong t (area (meshOf pts base t σ)) (λ k. f (3 * k) +ℤ f (3 * k + 1) +ℤ f (3 * k + 2))
-      (λ k l. sym (ap₂ (λ (x y : ℤ). x +ℤ y) (ap₂ (λ (x y : ℤ). x +ℤ y) (at (3 * k) (w .tri k l .dst0)) (at (3 * k + 1) (w .tri k l .dst1))) (at (3 * k + 2) (w .tri k l .dst2)) ∙ orient-sum (pts (σ .org (3 * k))) (pts (σ .org (3 * k + 1))) (pts (σ .org (3 * k + 2))) (base s0))) ∙
+      (λ k l. sym (ap₂ (λ (x y : ℤ). x +ℤ y) (ap₂ (λ (x y : ℤ). x +ℤ y) (at (3 * k) (w .tri k l .dst0)) (at (3 * k + 1) (w .tri k l .dst1)))
+      (at (3 * k + 2) (w .tri k l .dst2)) ∙ orient-sum (pts (σ .org (3 * k))) (pts (σ .org (3 * k + 1))) (pts (σ .org (3 * k + 2))) (base s0))) ∙
       sym (sum-three t f) ∙
-      unmated (3 * t) (σ .has) (σ .mate) (λ h l e. w .low (σ .mate h) (good h (w .live h l) .mated e .live)) (λ h l e. good h (w .live h l) .mated e .has) (λ h l e. good h (w .live h l) .mated e .back) f
+      unmated (3 * t) (σ .has) (σ .mate) (λ h l e. w .low (σ .mate h) (good h (w .live h l) .mated e .live))
+      (λ h l e. good h (w .live h l) .mated e .has) (λ h l e. good h (w .live h l) .mated e .back) f
       (λ h l e. ap₂ (φP pts base) (good h (w .live h l) .mated e .org) (good h (w .live h l) .mated e .dst) ∙ orient-swap (pts (σ .dst h)) (pts (σ .org h)) (base s0)) ∙
       sum-cong (3 * t) (λ h. cond (σ .has h) (pos 0) (f h)) (λ h. cond (bare σ h) (f h) (pos 0)) (λ h l. live-cond (σ .live h) (σ .has h) (f h) (w .live h l)) ∙
       sym (sum-more (3 * t) n (λ h. cond (bare σ h) (f h) (pos 0)) fits (λ h l. dead-cond (σ .live h) (σ .has h) (f h) (no-live (σ .live h) (λ e. let k = w .low h e in omega arith))))
@@ -59,7 +61,8 @@ module _ (pts : ℕ → Pt ℤ) (base : Side → Pt ℤ) where
       at h e = ap (φP pts base (σ .org h)) e
 
   -- A TILING: the net's invariant and all triangles in place
-  pub net-covers : (t n : ℕ) (must : ℕ → ℕ → Type 0) (point : ℕ → Type 0) (σ : Net) → 3 * t ≤ n → Pos (baseArea base) → Whole pts base t σ → Inv (world pts base n must point) σ → Covers (meshOf pts base t σ)
+  pub net-covers : (t n : ℕ) (must : ℕ → ℕ → Type 0) (point : ℕ → Type 0) (σ : Net) → 3 * t ≤ n → Pos (baseArea base) → Whole pts base t σ →
+      Inv (world pts base n must point) σ → Covers (meshOf pts base t σ)
   net-covers t n must point σ fits b w inv = record {
     dst0 = λ k l. ap pts (w .tri k l .dst0);
     dst1 = λ k l. ap pts (w .tri k l .dst1);

@@ -21,7 +21,8 @@ use Rattle.cavities.proofs.Recover.{in-vt, opened, opened-net, recovere
 use Rattle.cavities.proofs.Stays.{trans, wrote, arrive-stays, closing-stays}
 use Rattle.cavities.proofs.Walk.{walk-strip}
 
-module _ (pts : ℕ → Pt ℤ) (base : Side → Pt ℤ) (N : ℕ) (must : ℕ → ℕ → Type 0) (point : ℕ → Type 0) (F : Figure) (t cap n l r PL PR : ℕ) (σ σ' : Net) (b : Begun pts base N must point F t cap n l r PL PR σ) (rec : Recovery (CcwP pts) F t n l r PL PR σ σ') where
+module _ (pts : ℕ → Pt ℤ) (base : Side → Pt ℤ) (N : ℕ) (must : ℕ → ℕ → Type 0) (point : ℕ → Type 0) (F : Figure) (t cap n l r PL PR : ℕ) (σ σ' : Net)
+    (b : Begun pts base N must point F t cap n l r PL PR σ) (rec : Recovery (CcwP pts) F t n l r PL PR σ σ') where
   abbrev W : World
   W = world pts base N must point
 

@@ -45,7 +45,8 @@ by-last n z P f e l = go (decLt z n)
     go (no k) = let q : n ≡ z = omega arith in subst P q e
 
 -- a gap more on the left, or on the right
-module _ (F : Figure) (n l r : ℕ) (σ σ' : Net) (ch : Chains F n l r σ) (fresh : ¬ Gaps (F .vt) 0 (suc n) (F .vt (suc n))) (org : (h : ℕ) → Gaps (F .vt) 0 (suc n) h → σ' .org h ≡ σ .org h) (dst : (h : ℕ) → Gaps (F .vt) 0 (suc n) h → σ' .dst h ≡ σ .dst h) where
+module _ (F : Figure) (n l r : ℕ) (σ σ' : Net) (ch : Chains F n l r σ) (fresh : ¬ Gaps (F .vt) 0 (suc n) (F .vt (suc n)))
+    (org : (h : ℕ) → Gaps (F .vt) 0 (suc n) h → σ' .org h ≡ σ .org h) (dst : (h : ℕ) → Gaps (F .vt) 0 (suc n) h → σ' .dst h ≡ σ .dst h) where
   wider : (h : ℕ) → Gaps (F .vt) 0 (suc n) h → Gaps (F .vt) 0 (suc (suc n)) h
   wider h g = record { at = g .at; low = g .low; high = let k = g .high in omega arith; is = g .is }
 
@@ -98,7 +99,8 @@ module _ (W : World) (Ccw : ℕ → ℕ → ℕ → Type 0) (F : Figure) (t cap 
   pub vt-fresh : (n : ℕ) → suc n < cap → ¬ Gaps (F .vt) 0 (suc n) (F .vt (suc n))
   vt-fresh n fits g = let q = til .apart (suc n) (g .at) fits (let k = fits in let m = g .high in omega arith) (g .is) in let m = g .high in omega arith
 
-  module _ (n l r x f g : ℕ) (σ1 : Net) (st : Strip W F t n l r x σ σ1) (fits : suc n < cap) (has : σ1 .has x ≡ true) (plain : σ1 .mark x ≡ 0) (three : Three (F .slot n) (σ1 .mate x) f g) (small : F .slot n < t) where
+  module _ (n l r x f g : ℕ) (σ1 : Net) (st : Strip W F t n l r x σ σ1) (fits : suc n < cap) (has : σ1 .has x ≡ true) (plain : σ1 .mark x ≡ 0)
+      (three : Three (F .slot n) (σ1 .mate x) f g) (small : F .slot n < t) where
     pub pair : Mated σ1 x (σ1 .mate x)
     pair = st .core .inv .good x (st .core .exit-live) .mated has
 
@@ -248,7 +250,9 @@ module _ (W : World) (Ccw : ℕ → ℕ → ℕ → Type 0) (F : Figure) (t cap 
       f-vt : ¬ (f ≡ F .vt (suc n))
       f-vt = not-vt n l r x f g σ1 st less (a .has) (a .plain) (a .three) (a .small) f (parts (a .three) .in-f) (suc n) less
 
-  first : (f x g : ℕ) (σ1 σ2 : Net) → 1 < cap → Three (F .slot 0) f x g → F .slot 0 < t → σ .org f ≡ F .cl 0 → σ .org f ≡ F .cr 0 → σ .org x ≡ F .cr 1 → σ .org g ≡ F .cl 1 → F .Left (F .cl 1) → F .Right (F .cr 1) → F .gl 0 ≡ F .vt 0 → F .gr 0 ≡ F .vt 1 → Parked σ σ1 g (F .vt 0) → Parked σ1 σ2 f (F .vt 1) → Strip W F t 1 1 1 x σ σ2
+  first : (f x g : ℕ) (σ1 σ2 : Net) → 1 < cap → Three (F .slot 0) f x g → F .slot 0 < t → σ .org f ≡ F .cl 0 → σ .org f ≡ F .cr 0 →
+      σ .org x ≡ F .cr 1 → σ .org g ≡ F .cl 1 → F .Left (F .cl 1) → F .Right (F .cr 1) → F .gl 0 ≡ F .vt 0 → F .gr 0 ≡ F .vt 1 →
+      Parked σ σ1 g (F .vt 0) → Parked σ1 σ2 f (F .vt 1) → Strip W F t 1 1 1 x σ σ2
   first f x g σ1 σ2 fits three small a a' u v lv ru el er park park' = record {
     core = begin W Ccw (F .slot) (F .vt) t cap x g f σ σ1 σ2 til fits (parts (turn three)) small park park';
     chains = record {
@@ -311,7 +315,8 @@ walk-strip W Ccw F t cap til fits (right {n = n} {l = l} {r = r} {x = x} {f = f}
     walk-right W Ccw F t cap σ til n l r x f g σ1 (walk-strip W Ccw F t cap til (omega arith) w) fits has plain three small σ2 σ3 drop park o s e
 
 -- no triangle is entered twice: the exit's partner is a half-edge of a triangle that was not crossed
-module _ (W : World) (Ccw : ℕ → ℕ → ℕ → Type 0) (F : Figure) (t n l r x : ℕ) (σ σ1 : Net) (low : (h : ℕ) → Live σ h → h < 3 * t) (a-left : ¬ F .Left (F .cr 0)) (a-right : ¬ F .Right (F .cl 0)) (st : Strip W F t n l r x σ σ1) (has : σ1 .has x ≡ true) where
+module _ (W : World) (Ccw : ℕ → ℕ → ℕ → Type 0) (F : Figure) (t n l r x : ℕ) (σ σ1 : Net) (low : (h : ℕ) → Live σ h → h < 3 * t)
+    (a-left : ¬ F .Left (F .cr 0)) (a-right : ¬ F .Right (F .cl 0)) (st : Strip W F t n l r x σ σ1) (has : σ1 .has x ≡ true) where
   x-pair : Mated σ1 x (σ1 .mate x)
   x-pair = st .core .inv .good x (st .core .exit-live) .mated has
 
@@ -342,7 +347,8 @@ module _ (W : World) (Ccw : ℕ → ℕ → ℕ → Type 0) (F : Figure) (t n l 
       go (no d) = F .apart (F .cl l) at-left (subst (F .Right) e (st .exit .is-right z (omega arith) (omega arith)))
 
   pub enters-new : ¬ Slots (F .slot) 0 n (σ1 .mate x)
-  enters-new s = clash (x-pair .live) (st .core .slot-dead (σ1 .mate x) s (λ q. F .apart (F .cl l) at-left (subst (F .Right) (sym (st .exit .org) ∙ ap (σ1 .org) (sym q) ∙ x-pair .org ∙ st .exit .dst) at-right)))
+  enters-new s = clash (x-pair .live) (st .core .slot-dead (σ1 .mate x) s
+      (λ q. F .apart (F .cl l) at-left (subst (F .Right) (sym (st .exit .org) ∙ ap (σ1 .org) (sym q) ∙ x-pair .org ∙ st .exit .dst) at-right)))
 
   pub enters-real : σ1 .mate x < 3 * t
   enters-real = low (σ1 .mate x) (sym (st .core .live (σ1 .mate x) enters-new no-gap) ∙ x-pair .live)

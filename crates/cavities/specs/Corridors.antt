@@ -44,9 +44,15 @@ pub record Figure : Type 1 where
 
 -- Walk F t n l r x σ σ': n triangles are crossed, with l corners on the left and r on the right, and x is the edge to leave by
 pub data Walk (F : Figure) (t : ℕ) : ℕ → ℕ → ℕ → ℕ → Net → Net → Type 0 where
-  start : {f x g : ℕ} {σ σ1 σ2 : Net} → Three (F .slot 0) f x g → F .slot 0 < t → σ .org f ≡ F .cl 0 → σ .org f ≡ F .cr 0 → σ .org x ≡ F .cr 1 → σ .org g ≡ F .cl 1 → F .Left (F .cl 1) → F .Right (F .cr 1) → F .gl 0 ≡ F .vt 0 → F .gr 0 ≡ F .vt 1 → Parked σ σ1 g (F .vt 0) → Parked σ1 σ2 f (F .vt 1) → Walk F t 1 1 1 x σ σ2
-  left : {n l r x f g : ℕ} {σ σ1 σ2 σ3 : Net} → Walk F t n l r x σ σ1 → σ1 .has x ≡ true → σ1 .mark x ≡ 0 → Three (F .slot n) (σ1 .mate x) f g → F .slot n < t → σ1 .org g ≡ F .cl (suc l) → F .Left (F .cl (suc l)) → F .gl l ≡ F .vt (suc n) → Dropped σ1 σ2 x (σ1 .mate x) → Parked σ2 σ3 g (F .vt (suc n)) → Walk F t (suc n) (suc l) r f σ σ3
-  right : {n l r x f g : ℕ} {σ σ1 σ2 σ3 : Net} → Walk F t n l r x σ σ1 → σ1 .has x ≡ true → σ1 .mark x ≡ 0 → Three (F .slot n) (σ1 .mate x) f g → F .slot n < t → σ1 .org g ≡ F .cr (suc r) → F .Right (F .cr (suc r)) → F .gr r ≡ F .vt (suc n) → Dropped σ1 σ2 x (σ1 .mate x) → Parked σ2 σ3 f (F .vt (suc n)) → Walk F t (suc n) l (suc r) g σ σ3
+  start : {f x g : ℕ} {σ σ1 σ2 : Net} → Three (F .slot 0) f x g → F .slot 0 < t → σ .org f ≡ F .cl 0 → σ .org f ≡ F .cr 0 → σ .org x ≡ F .cr 1 →
+      σ .org g ≡ F .cl 1 → F .Left (F .cl 1) → F .Right (F .cr 1) → F .gl 0 ≡ F .vt 0 → F .gr 0 ≡ F .vt 1 → Parked σ σ1 g (F .vt 0) →
+      Parked σ1 σ2 f (F .vt 1) → Walk F t 1 1 1 x σ σ2
+  left : {n l r x f g : ℕ} {σ σ1 σ2 σ3 : Net} → Walk F t n l r x σ σ1 → σ1 .has x ≡ true → σ1 .mark x ≡ 0 → Three (F .slot n) (σ1 .mate x) f g →
+      F .slot n < t → σ1 .org g ≡ F .cl (suc l) → F .Left (F .cl (suc l)) → F .gl l ≡ F .vt (suc n) → Dropped σ1 σ2 x (σ1 .mate x) →
+      Parked σ2 σ3 g (F .vt (suc n)) → Walk F t (suc n) (suc l) r f σ σ3
+  right : {n l r x f g : ℕ} {σ σ1 σ2 σ3 : Net} → Walk F t n l r x σ σ1 → σ1 .has x ≡ true → σ1 .mark x ≡ 0 → Three (F .slot n) (σ1 .mate x) f g →
+      F .slot n < t → σ1 .org g ≡ F .cr (suc r) → F .Right (F .cr (suc r)) → F .gr r ≡ F .vt (suc n) → Dropped σ1 σ2 x (σ1 .mate x) →
+      Parked σ2 σ3 f (F .vt (suc n)) → Walk F t (suc n) l (suc r) g σ σ3
 
 -- b is met: both edges beside it are parked
 pub record Arrive (F : Figure) (t n l r x f g : ℕ) (σ1 σ2 σ3 σ4 : Net) : Type 0 where

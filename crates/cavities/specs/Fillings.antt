@@ -48,7 +48,8 @@ pub record Tri (Ccw : ℕ → ℕ → ℕ → Type 0) (σ : Net) (s : ℕ) : Typ
 -- corner k for its apex, fills i .. k and k .. j, and becomes the partner of P; at a gap, the gap's half-edge moves to P.
 pub data Fill (Ccw : ℕ → ℕ → ℕ → Type 0) (c gp slot : ℕ → ℕ) : ℕ → ℕ → ℕ → ℕ → ℕ → Net → Net → Type 0 where
   gap : {i p P : ℕ} {σ σ' : Net} → Moved σ σ' (gp i) P → Fill Ccw c gp slot i (suc i) p p P σ σ'
-  node : {i k j p q r P : ℕ} {σ σ0 σ1 σ2 σ3 : Net} → Ccw (c i) (c j) (c k) → Cut σ σ0 (slot r) (c i) (c j) (c k) → Fill Ccw c gp slot i k p q (3 * slot r + 2) σ0 σ1 → Fill Ccw c gp slot k j q r (3 * slot r + 1) σ1 σ2 → Joined σ2 σ3 (3 * slot r) P → Fill Ccw c gp slot i j p (suc r) P σ σ3
+  node : {i k j p q r P : ℕ} {σ σ0 σ1 σ2 σ3 : Net} → Ccw (c i) (c j) (c k) → Cut σ σ0 (slot r) (c i) (c j) (c k) →
+      Fill Ccw c gp slot i k p q (3 * slot r + 2) σ0 σ1 → Fill Ccw c gp slot k j q r (3 * slot r + 1) σ1 σ2 → Joined σ2 σ3 (3 * slot r) P → Fill Ccw c gp slot i j p (suc r) P σ σ3
 
 -- what a part's filling finds
 pub record Ready (W : World) (c gp slot : ℕ → ℕ) (i j p q P : ℕ) (σ : Net) : Type 0 where

@@ -128,7 +128,8 @@ pub cleared-thrice : (k : ℕ) (w w₁ w₂ w₃ : List ℕ) → w₁ ≡ cleare
 cleared-thrice k w w₁ w₂ w₃ e r f = f ∙ cleared-over k w w₂ (rest-then (rest-cleared k e) r)
 
 -- ---- the ends of the pairs
-pub ends-of : (n : ℕ) (qs : List ℕ) → length qs ≡ 2 * pairCount qs → ((k : ℕ) → k < pairCount qs → endA qs k < n) → ((k : ℕ) → k < pairCount qs → endB qs k < n) → (i : ℕ) → i < length qs → getD qs i 0 < n
+pub ends-of : (n : ℕ) (qs : List ℕ) → length qs ≡ 2 * pairCount qs → ((k : ℕ) → k < pairCount qs → endA qs k < n) →
+    ((k : ℕ) → k < pairCount qs → endB qs k < n) → (i : ℕ) → i < length qs → getD qs i 0 < n
 ends-of n qs e a b i l = go (i % 2) refl (omega arith)
   where
     at : (j : ℕ) → j ≡ i → getD qs j 0 < n → getD qs i 0 < n

@@ -165,9 +165,11 @@ module _ (a b c d : Pt ℤ) where
   pub apart-x : apart (a .x) (b .x) (c .x) (d .x) ≡ true → crosses a b c d ≡ false
   unfolding orient
   apart-x e =
-      refuse (λ h i. clash (orient a b c) (orient a b d) (orient c d a) (orient c d b) (a .x) (b .x) (c .x) (d .x) (by4 (weighted (λ p. p .x)) (λ a b c d. con (pos 0)) tt a b c d) h i (to-gap (a .x) (b .x) (c .x) (d .x) e))
+      refuse (λ h i. clash (orient a b c) (orient a b d) (orient c d a) (orient c d b) (a .x) (b .x) (c .x) (d .x)
+      (by4 (weighted (λ p. p .x)) (λ a b c d. con (pos 0)) tt a b c d) h i (to-gap (a .x) (b .x) (c .x) (d .x) e))
 
   pub apart-y : apart (a .y) (b .y) (c .y) (d .y) ≡ true → crosses a b c d ≡ false
   unfolding orient
   apart-y e =
-      refuse (λ h i. clash (orient a b c) (orient a b d) (orient c d a) (orient c d b) (a .y) (b .y) (c .y) (d .y) (by4 (weighted (λ p. p .y)) (λ a b c d. con (pos 0)) tt a b c d) h i (to-gap (a .y) (b .y) (c .y) (d .y) e))
+      refuse (λ h i. clash (orient a b c) (orient a b d) (orient c d a) (orient c d b) (a .y) (b .y) (c .y) (d .y)
+      (by4 (weighted (λ p. p .y)) (λ a b c d. con (pos 0)) tt a b c d) h i (to-gap (a .y) (b .y) (c .y) (d .y) e))

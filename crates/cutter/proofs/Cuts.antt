@@ -56,7 +56,19 @@ module _ (ps : List ℤ) (qs out w : List ℕ) (e : asked ps qs (length out) (le
 
   -- the checker's own rows pass, too
   its-rows : rows false (shortWork n (length w)) ps qs ≡ yes
-  its-rows = silent-rows false (shortWork n (length w)) ps qs (record { row1 = quiet .row1; row2 = quiet .row2; row3 = rooms .1; row4 = quiet .row4; row5 = quiet .row5; row6 = quiet .row6; row7 = quiet .row7; row8 = quiet .row8; row9 = quiet .row9; row10 = quiet .row10 })
+  its-rows = silent-rows false (shortWork n (length w)) ps qs
+      (record {
+        row1 = quiet .row1;
+        row2 = quiet .row2;
+        row3 = rooms .1;
+        row4 = quiet .row4;
+        row5 = quiet .row5;
+        row6 = quiet .row6;
+        row7 = quiet .row7;
+        row8 = quiet .row8;
+        row9 = quiet .row9;
+        row10 = quiet .row10;
+      })
 
   -- ---- the points are in
 

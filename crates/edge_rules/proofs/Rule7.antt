@@ -58,7 +58,10 @@ mark-is false m e = ap (λ (k : ℕ). not (eqb k 0)) e
 pub by-marks : (ps : List ℤ) (qs xs w : List ℕ) → length xs % 3 ≡ 0 → Marked (pointCount ps) qs xs w → allStay ps xs w ≡ rule7 ps qs xs
 unfolding rule7
 by-marks ps qs xs w whole m =
-    all-same (λ h. allTo (length xs) (stays ps xs w h)) (λ h. allTo (length xs) (paired h)) (length xs) (λ h l. all-same (stays ps xs w h) (paired h) (length xs) (λ g k. ap (λ (b : Bool). not (reverse xs h g) || b || not (flip ps xs w h g)) (mark-is (isPair qs (corner xs h) (corner xs (nxt h))) (markOf (pointCount ps) w h) (m h l))))
+    all-same (λ h. allTo (length xs) (stays ps xs w h)) (λ h. allTo (length xs) (paired h)) (length xs)
+    (λ h l. all-same (stays ps xs w h) (paired h) (length xs)
+    (λ g k. ap (λ (b : Bool). not (reverse xs h g) || b || not (flip ps xs w h g))
+    (mark-is (isPair qs (corner xs h) (corner xs (nxt h))) (markOf (pointCount ps) w h) (m h l))))
     ∙ ap (λ (k : ℕ). allTo k (λ h. allTo k (paired h))) (sym (whole-length xs whole))
   where
     paired : ℕ → ℕ → Bool

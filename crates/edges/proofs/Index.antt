@@ -47,7 +47,8 @@ module _ (n : ℕ) (xs : List ℕ) (w : List ℕ) (h : ℕ) (low : h < length xs
   links : (g : ℕ) → g < h + 1 → Dec (g ≡ h) → getD more (n + g) 0 ≡ lastFrom xs (corner xs g) g
   links g l (yes e) =
       let q = c h low in
-      ap (λ (x : ℕ). getD more (n + x) 0) e ∙ getD-set-other w₁ v (n + h) (h + 1) 0 (λ r. let b : ⊥ = omega arith in b) ∙ getD-set-same w (n + h) (getD w v 0) 0 (omega arith) ∙ i .heads v q ∙ ap (λ (x : ℕ). lastFrom xs (corner xs x) x) (sym e)
+      ap (λ (x : ℕ). getD more (n + x) 0) e ∙ getD-set-other w₁ v (n + h) (h + 1) 0 (λ r. let b : ⊥ = omega arith in b)
+      ∙ getD-set-same w (n + h) (getD w v 0) 0 (omega arith) ∙ i .heads v q ∙ ap (λ (x : ℕ). lastFrom xs (corner xs x) x) (sym e)
   links g l (no f) =
       let q = c h low in
       other (n + g) (λ r. let b : ⊥ = omega arith in b) (λ r. let b : ⊥ = omega arith in b) ∙ i .links g (omega arith)

@@ -66,7 +66,8 @@ module _ (count c : ℕ) (no : (s k : ℕ) → s < count → k < 9 → ¬ (c ≡
   unfolding tell cell
   tell-off zero y w l = refl
   tell-off (suc o) y w l =
-      getD-set-other w (cell 3 o) c (suc y) 0 (λ e. no (o / 3) (3 + o % 3) (let z : o / 3 < count = omega arith in z) (let z : 3 + o % 3 < 9 = omega arith in z) (let z : c ≡ 16 * (o / 3) + (3 + o % 3) = omega arith in z))
+      getD-set-other w (cell 3 o) c (suc y) 0 (λ e. no (o / 3) (3 + o % 3) (let z : o / 3 < count = omega arith in z)
+      (let z : 3 + o % 3 < 9 = omega arith in z) (let z : c ≡ 16 * (o / 3) + (3 + o % 3) = omega arith in z))
 
   tells-off : (adj : ℕ → ℕ) (L : List Move) (w : List ℕ) → All (λ v. adj (v .old) ≤ 3 * count) L → getD (tells adj L w) c 0 ≡ getD w c 0
   unfolding tells
@@ -76,6 +77,12 @@ module _ (count c : ℕ) (no : (s k : ℕ) → s < count → k < 9 → ¬ (c ≡
   pub flip-off : (w : List ℕ) → ((h : ℕ) → h < 3 * count → netOf w count .adj h ≤ 3 * count) → (h g : ℕ) → h < 3 * count → g < 3 * count → getD (flipList w h g) c 0 ≡ getD w c 0
   unfolding flipList flipMoves netOf
   flip-off w partners h g hb gb =
-      tells-off (netOf w count .adj) (flipMoves h g) (born (born w (h / 3) (flipA (netOf w 0) h g)) (g / 3) (flipB (netOf w 0) h g))
-      (partners (nxt g) (nxt-in g count gb), (partners (prv h) (nxt-in (nxt h) count (nxt-in h count hb)), (partners (prv g) (nxt-in (nxt g) count (nxt-in g count gb)), (partners (nxt h) (nxt-in h count hb), tt))))
-      ∙ born-off (born w (h / 3) (flipA (netOf w 0) h g)) (g / 3) (flipB (netOf w 0) h g) (let z : g / 3 < count = omega arith in z) ∙ born-off w (h / 3) (flipA (netOf w 0) h g) (let z : h / 3 < count = omega arith in z)
+      tells-off (netOf w count .adj) (flipMoves h g) (born (born w (h / 3) (flipA (netOf w 0) h g)) (g / 3) (flipB (netOf w 0) h g)) (
+        partners (nxt g) (nxt-in g count gb),
+        (
+          partners (prv h) (nxt-in (nxt h) count (nxt-in h count hb)),
+          (partners (prv g) (nxt-in (nxt g) count (nxt-in g count gb)), (partners (nxt h) (nxt-in h count hb), tt)),
+        ),
+      )
+      ∙ born-off (born w (h / 3) (flipA (netOf w 0) h g)) (g / 3) (flipB (netOf w 0) h g) (let z : g / 3 < count = omega arith in z)
+      ∙ born-off w (h / 3) (flipA (netOf w 0) h g) (let z : h / 3 < count = omega arith in z)

@@ -288,7 +288,9 @@ module _ {ps : List ℤ} {w₀ : List ℕ} {count many newest : ℕ} where
             goes = λ m' z' s. o .goes m' z' (Legal.turn h g slot below wants (λ x y l j. found .before x y l (j ∙ slot)) (rw (new-net, new-stack) at s));
           }
 
-          falls : measure (point ps) (rank ps) (pointCount ps) (6 * (pointCount ps * (pointCount ps * pointCount ps)) + 1) (flip net h g) (length (reborn h g (stack w k))) < measure (point ps) (rank ps) (pointCount ps) (6 * (pointCount ps * (pointCount ps * pointCount ps)) + 1) net (length (h / 3 ∷ stack w k))
+          falls : measure (point ps) (rank ps) (pointCount ps) (6 * (pointCount ps * (pointCount ps * pointCount ps)) + 1) (flip net h g)
+              (length (reborn h g (stack w k))) < measure (point ps) (rank ps) (pointCount ps)
+              (6 * (pointCount ps * (pointCount ps * pointCount ps)) + 1) net (length (h / 3 ∷ stack w k))
           unfolding netOf
           falls =
               turn-falls (stack w k) (pointCount ps) (6 * (pointCount ps * (pointCount ps * pointCount ps)) + 1) h g (o .ready .tiling) (rank-below ps)

@@ -150,7 +150,8 @@ eq-part (fin t n d) s m q e (b, qb, qw) h =
     let A : n * up d * down e ≡ q * (down e * down d) = common n (up d) (down d) b (down e) qb ∙ ap₂ _*_ same (mul-comm (down d) (down e)) in
     let B : m * up e * down d ≡ (q * down e + r) * down d = ap (λ (k : ℕ). k * down d) h in
     ap₂ (λ (x y : ℕ). level t x s y) A B
-    ∙ ap (λ (z : Bool). eqb (q * (down e * down d)) ((q * down e + r) * down d) && z) (level-signs t s q b qw (q * (down e * down d)) (λ (z : b ≡ 0). ap (λ (k : ℕ). k * (down e * down d)) (sym same ∙ z) ∙ zero-mul (down e * down d)))
+    ∙ ap (λ (z : Bool). eqb (q * (down e * down d)) ((q * down e + r) * down d) && z)
+    (level-signs t s q b qw (q * (down e * down d)) (λ (z : b ≡ 0). ap (λ (k : ℕ). k * (down e * down d)) (sym same ∙ z) ∙ zero-mul (down e * down d)))
     ∙ and-true (eqb (q * (down e * down d)) ((q * down e + r) * down d))
     ∙ eq-rest q r (down e) (down d) (down-pos d)
   where

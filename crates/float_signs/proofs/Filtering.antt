@@ -73,8 +73,10 @@ orient-exact a b c p q r ia ib ic =
     let zl = (p .x -ℤ r .x) *ℤ (q .y -ℤ r .y) in
     let zr = (p .y -ℤ r .y) *ℤ (q .x -ℤ r .x) in
     let few = add-le-add (l .within) (m .within) in
-    let s = add-is (absF (detLeft a b c)) (absF (detRight a b c)) (pos (natAbs zl)) (pos (natAbs zr)) (size-is (detLeft a b c) zl (l .is)) (size-is (detRight a b c) zr (m .is)) (le-trans few (lit≤ tt)) in
-    certified-exact 1688849860263937 101 (sub binary64 (detLeft a b c) (detRight a b c)) (add binary64 (absF (detLeft a b c)) (absF (detRight a b c))) (zl -ℤ zr) (natAbs zl + natAbs zr) (diff l m tt .is) s (abs-sub zl zr) (ccw-few (natAbs zl + natAbs zr) few)
+    let s = add-is (absF (detLeft a b c)) (absF (detRight a b c)) (pos (natAbs zl)) (pos (natAbs zr)) (size-is (detLeft a b c) zl (l .is))
+    (size-is (detRight a b c) zr (m .is)) (le-trans few (lit≤ tt)) in
+    certified-exact 1688849860263937 101 (sub binary64 (detLeft a b c) (detRight a b c)) (add binary64 (absF (detLeft a b c)) (absF (detRight a b c)))
+    (zl -ℤ zr) (natAbs zl + natAbs zr) (diff l m tt .is) s (abs-sub zl zr) (ccw-few (natAbs zl + natAbs zr) few)
 
 pub circle-exact : (a b c d : Vec2) (p q r s : Pt ℤ) → WholePoint 2048 a p → WholePoint 2048 b q → WholePoint 2048 c r → WholePoint 2048 d s → Is (circleF a b c d) (incircle p q r s)
 unfolding circleF incircle

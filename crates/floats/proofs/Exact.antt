@@ -131,7 +131,8 @@ module _ (P : Float → ℤ → Type 0) (top : ℕ) (rounded : (s : Bool) (a c n
               (subst (λ (i : ℤ). P (round binary64 true (a * c - b * c) c) i) (sym (neg-pos a b ∙ sub-lt b a l)) (rounded true (a * c - b * c) c (a - b) C (sub-mul a b c) (omega arith)))
           | inr k ↦
               rw (le-ltb (b * c) (a * c) (mul-le-mul-right c k))
-              (subst (λ (i : ℤ). P (round binary64 false (a * c - b * c) c) i) (sym (neg-pos a b ∙ sub-le b a k ∙ ap pos (omega arith))) (rounded false (a * c - b * c) c (a - b) C (sub-mul a b c) (omega arith)))
+              (subst (λ (i : ℤ). P (round binary64 false (a * c - b * c) c) i) (sym (neg-pos a b ∙ sub-le b a k ∙ ap pos (omega arith)))
+              (rounded false (a * c - b * c) c (a - b) C (sub-mul a b c) (omega arith)))
         ])
   ]
 

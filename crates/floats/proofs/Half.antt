@@ -126,7 +126,8 @@ rounded-low a c C h =
 less : (a b c d n : ℕ) → a * 2 ≤ c → 0 < c → 0 < d → b ≡ suc n * d → a * d < b * c
 less a b c d n h C D e =
     let l : a < c = omega arith in
-    lt-of-lt-of-le (mul-lt-mul-of-pos-right l D) (le-trans (le-of-eq (mul-comm c d)) (mul-le-mul-right c (le-trans (le-trans (le-of-eq (sym (one-mul d))) (mul-le-mul-right d (zero-lt-suc n))) (le-of-eq (sym e)))))
+    lt-of-lt-of-le (mul-lt-mul-of-pos-right l D) (le-trans (le-of-eq (mul-comm c d))
+    (mul-le-mul-right c (le-trans (le-trans (le-of-eq (sym (one-mul d))) (mul-le-mul-right d (zero-lt-suc n))) (le-of-eq (sym e)))))
 
 pub low-below : (x y : Float) (z : ℤ) (n : ℕ) → Low x → Is y z → natAbs z ≡ suc n → lt x (absF y) ≡ true
 unfolding lt absF

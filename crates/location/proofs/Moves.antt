@@ -102,7 +102,8 @@ module _ (P : ℕ → Pt ℤ) (w : List ℕ) (T : ℕ) (p : Pt ℤ) (t : ℕ) wh
   unfolding beyond
   beyond2 = rw (nxt2 t, org2 w T t, org0 w T t)
 
-  move-is : move P (netOf w T) p t ≡ chosen (right (16 * t) (16 * t + 1)) (right (16 * t + 1) (16 * t + 2)) (right (16 * t + 2) (16 * t)) (getD w (16 * t + 3) 0) (getD w (16 * t + 4) 0) (getD w (16 * t + 5) 0)
+  move-is : move P (netOf w T) p t ≡ chosen (right (16 * t) (16 * t + 1)) (right (16 * t + 1) (16 * t + 2)) (right (16 * t + 2) (16 * t))
+      (getD w (16 * t + 3) 0) (getD w (16 * t + 4) 0) (getD w (16 * t + 5) 0)
   unfolding move holds step chosen
   move-is = rw (beyond0, beyond1, beyond2, adj0 w T t, adj1 w T t, adj2 w T t)
 
@@ -119,7 +120,8 @@ module _ (P : ℕ → Pt ℤ) (w : List ℕ) (T : ℕ) (p : Pt ℤ) (t : ℕ) wh
   flat2 : along P (netOf w T) p (3 * t + 2) ≡ cond (eqZ (det (16 * t + 2) (16 * t)) (pos 0)) (3 * t + 3) 0
   flat2 = let e : suc (3 * t + 2) ≡ 3 * t + 3 = omega arith in rw (nxt2 t, org2 w T t, org0 w T t, e)
 
-  edge-is : edgeAt P (netOf w T) p t ≡ orElse (cond (eqZ (det (16 * t) (16 * t + 1)) (pos 0)) (3 * t + 1) 0) (orElse (cond (eqZ (det (16 * t + 1) (16 * t + 2)) (pos 0)) (3 * t + 2) 0) (cond (eqZ (det (16 * t + 2) (16 * t)) (pos 0)) (3 * t + 3) 0))
+  edge-is : edgeAt P (netOf w T) p t ≡ orElse (cond (eqZ (det (16 * t) (16 * t + 1)) (pos 0)) (3 * t + 1) 0)
+      (orElse (cond (eqZ (det (16 * t + 1) (16 * t + 2)) (pos 0)) (3 * t + 2) 0) (cond (eqZ (det (16 * t + 2) (16 * t)) (pos 0)) (3 * t + 3) 0))
   unfolding edgeAt
   edge-is = rw (flat0, flat1, flat2)
 

@@ -94,7 +94,8 @@ module _ {P : ℕ → Pt ℤ} {B : Side → Pt ℤ} {k : ℕ} {rk : ℕ → ℕ}
   legal-newest v (stay n r) l = legal-newest v r l
   legal-newest {m} v (turn h g e b w f r) l =
       legal-newest (flip-tile v h g b (w .pair) (w .ccw-t) (w .ccw-n)) r
-      (subst (λ (x : ℕ). g / 3 < x) (sym (flip-tris (v .linked) (tile-apart v) h g b (w .pair) (far v h g b (w .pair)))) (let gb = v .linked .low h g b (w .pair) in let l : g / 3 < m .tris = omega arith in l))
+      (subst (λ (x : ℕ). g / 3 < x) (sym (flip-tris (v .linked) (tile-apart v) h g b (w .pair) (far v h g b (w .pair))))
+      (let gb = v .linked .low h g b (w .pair) in let l : g / 3 < m .tris = omega arith in l))
 
   legal-unmarked : {m m' : Net} {q : List ℕ} {z z' : ℕ} → Tiling P B k m → Legal P rk m q z m' z' → Unmarked m → Unmarked m'
   legal-unmarked v done u = u
@@ -163,7 +164,9 @@ module _ {P : ℕ → Pt ℤ} {rk : ℕ → ℕ} {a b c : ℕ} {o : Net} where
   pub builds-one : {k : ℕ} {m m' : Net} {z z' : ℕ} → Builds P rk a b c o k m z → Builds P rk a b c o k m' z' → (m ≡ m') × (z ≡ z')
   builds-one s s' = one s s' refl
 
-module _ (P : ℕ → Pt ℤ) (rk : ℕ → ℕ) (a b c n : ℕ) (la : a < 3) (lb : b < 3) (lc : c < 3) (each : (u : ℕ) → u < 3 → (u ≡ a) ⊎ ((u ≡ b) ⊎ (u ≡ c))) (ccw : Pos (orient (P a) (P b) (P c))) (within : (u : ℕ) → u < n → (i : Side) → NonNeg (orient (baseOf P a b c i) (baseOf P a b c (next i)) (P u))) (fresh : (u v : ℕ) → u < v → v < n → ¬ (P v ≡ P u)) where
+module _ (P : ℕ → Pt ℤ) (rk : ℕ → ℕ) (a b c n : ℕ) (la : a < 3) (lb : b < 3) (lc : c < 3) (each : (u : ℕ) → u < 3 → (u ≡ a) ⊎ ((u ≡ b) ⊎ (u ≡ c)))
+    (ccw : Pos (orient (P a) (P b) (P c))) (within : (u : ℕ) → u < n → (i : Side) →
+    NonNeg (orient (baseOf P a b c i) (baseOf P a b c (next i)) (P u))) (fresh : (u v : ℕ) → u < v → v < n → ¬ (P v ≡ P u)) where
   abbrev B : Side → Pt ℤ
   B = baseOf P a b c
 
@@ -232,7 +235,8 @@ module _ (P : ℕ → Pt ℤ) (rk : ℕ → ℕ) (a b c n : ℕ) (la : a < 3) (l
   -- the building steps make a tiling at rest
   pub built : {k : ℕ} {o m : Net} {z : ℕ} → k ≤ n → Builds P rk a b c o k m z → Built P B rk k m z
   built {o = o} l alone = first o
-  built l (more {k = k} {m' = m'} {z' = z'} s r) = let t = built (omega arith) s in let e : k + 1 ≡ suc k = omega arith in subst (λ (x : ℕ). Built P B rk x m' z') e (settled k t (goes-in k (omega arith) t) r)
+  built l (more {k = k} {m' = m'} {z' = z'} s r) = let t = built (omega arith) s in let e : k + 1 ≡ suc k = omega arith in
+      subst (λ (x : ℕ). Built P B rk x m' z') e (settled k t (goes-in k (omega arith) t) r)
 
   -- for all points
   module _ (rank : (u : ℕ) → u < n → rk u < n) (o : Net) where

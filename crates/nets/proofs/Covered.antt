@@ -57,7 +57,15 @@ pick-on B a b (no x) (no y) s1 p q = absurd (y (p, q))
 pick-on B a b (no x) (no y) s2 p q = (p, q)
 
 unfoldable pub mesh : (ℕ → Pt ℤ) → (Side → Pt ℤ) → Net → Mesh
-mesh P B m = record { tris = m .tris; org = λ h. P (m .org h); dst = λ h. P (dst m h); has = λ h. some (m .adj h); mate = λ h. less (m .adj h); side = λ h. sideOf B (P (m .org h)) (P (dst m h)); base = B }
+mesh P B m = record {
+  tris = m .tris;
+  org = λ h. P (m .org h);
+  dst = λ h. P (dst m h);
+  has = λ h. some (m .adj h);
+  mate = λ h. less (m .adj h);
+  side = λ h. sideOf B (P (m .org h)) (P (dst m h));
+  base = B;
+}
 
 module _ {P : ℕ → Pt ℤ} {B : Side → Pt ℤ} {k : ℕ} {m : Net} (v : Tiling P B k m) where
   pub covers : Covers (mesh P B m)
@@ -72,8 +80,10 @@ module _ {P : ℕ → Pt ℤ} {B : Side → Pt ℤ} {k : ℕ} {m : Net} (v : Til
     mate-mate = λ h l e. ap less (v .linked .back h (less (m .adj h)) l (some-yes (m .adj h) e));
     mate-org = λ h l e. ap P (v .linked .from h (less (m .adj h)) l (some-yes (m .adj h) e));
     mate-dst = λ h l e. ap P (to (v .linked) h (less (m .adj h)) l (some-yes (m .adj h) e));
-    on-org = λ h l e. (let s = v .linked .side h l (some-no (m .adj h) e) in pick-on B (P (m .org h)) (P (dst m h)) (both B s0 (P (m .org h)) (P (dst m h))) (both B s1 (P (m .org h)) (P (dst m h))) (s .0) (s .1) (s .2) .0);
-    on-dst = λ h l e. (let s = v .linked .side h l (some-no (m .adj h) e) in pick-on B (P (m .org h)) (P (dst m h)) (both B s0 (P (m .org h)) (P (dst m h))) (both B s1 (P (m .org h)) (P (dst m h))) (s .0) (s .1) (s .2) .1);
+    on-org = λ h l e. (let s = v .linked .side h l (some-no (m .adj h) e) in
+        pick-on B (P (m .org h)) (P (dst m h)) (both B s0 (P (m .org h)) (P (dst m h))) (both B s1 (P (m .org h)) (P (dst m h))) (s .0) (s .1) (s .2) .0);
+    on-dst = λ h l e. (let s = v .linked .side h l (some-no (m .adj h) e) in
+        pick-on B (P (m .org h)) (P (dst m h)) (both B s0 (P (m .org h)) (P (dst m h))) (both B s1 (P (m .org h)) (P (dst m h))) (s .0) (s .1) (s .2) .1);
     base-ccw = v .base-ccw;
     areas = v .areas;
   }

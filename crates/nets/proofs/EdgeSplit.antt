@@ -137,12 +137,55 @@ module _ {S : ℕ → ℕ → Type 0} {m : Net} (l : Linked S m) (ap' : Apart m)
   all-moved : All (Moved m r D) (edgeMoves m h g)
   unfolding edgeMoves D
   all-moved = (
-    record { old-in = ph; new-in = lowr (3 * t + 2) (omega arith); old-D = inl (nxt-slot2 h); new-D = inl (slot2 t); adj-is = rA .a2; org-is = rA .o2; dst-is = rA .d2 ∙ ap (m .org) (sym (nxt-three h)); con-is = rA .c2; out = λ o e. out-h (prv h) o ph (nxt-slot2 h) (nxt-not2 h) e },
+    record {
+      old-in = ph;
+      new-in = lowr (3 * t + 2) (omega arith);
+      old-D = inl (nxt-slot2 h);
+      new-D = inl (slot2 t);
+      adj-is = rA .a2;
+      org-is = rA .o2;
+      dst-is = rA .d2 ∙ ap (m .org) (sym (nxt-three h));
+      con-is = rA .c2;
+      out = λ o e. out-h (prv h) o ph (nxt-slot2 h) (nxt-not2 h) e;
+    },
     (
-      record { old-in = nh; new-in = lowr (3 * N + 1) (omega arith); old-D = inl (nxt-slot h); new-D = inr (inr (let q : N ≤ (3 * N + 1) / 3 = omega arith in q)); adj-is = rB .a1; org-is = rB .o1; dst-is = rB .d1; con-is = rB .c1; out = λ o e. out-h (nxt h) o nh (nxt-slot h) (nxt-not h) e },
+      record {
+        old-in = nh;
+        new-in = lowr (3 * N + 1) (omega arith);
+        old-D = inl (nxt-slot h);
+        new-D = inr (inr (let q : N ≤ (3 * N + 1) / 3 = omega arith in q));
+        adj-is = rB .a1;
+        org-is = rB .o1;
+        dst-is = rB .d1;
+        con-is = rB .c1;
+        out = λ o e. out-h (nxt h) o nh (nxt-slot h) (nxt-not h) e;
+      },
       (
-        record { old-in = pg; new-in = lowr (3 * n + 2) (let k = gb in omega arith); old-D = inr (inl (nxt-slot2 g)); new-D = inr (inl (slot2 n)); adj-is = rC .a2; org-is = rC .o2; dst-is = rC .d2 ∙ sym (l .from h g hb pair) ∙ ap (m .org) (sym (nxt-three g)); con-is = rC .c2; out = λ o e. out-g (prv g) o pg (nxt-slot2 g) (nxt-not2 g) e },
-        (record { old-in = ng; new-in = lowr (3 * (N + 1) + 1) (omega arith); old-D = inr (inl (nxt-slot g)); new-D = inr (inr (let q : N ≤ (3 * (N + 1) + 1) / 3 = omega arith in q)); adj-is = rE .a1; org-is = rE .o1 ∙ sym (to l h g hb pair); dst-is = rE .d1; con-is = rE .c1; out = λ o e. out-g (nxt g) o ng (nxt-slot g) (nxt-not g) e }, tt),
+        record {
+          old-in = pg;
+          new-in = lowr (3 * n + 2) (let k = gb in omega arith);
+          old-D = inr (inl (nxt-slot2 g));
+          new-D = inr (inl (slot2 n));
+          adj-is = rC .a2;
+          org-is = rC .o2;
+          dst-is = rC .d2 ∙ sym (l .from h g hb pair) ∙ ap (m .org) (sym (nxt-three g));
+          con-is = rC .c2;
+          out = λ o e. out-g (prv g) o pg (nxt-slot2 g) (nxt-not2 g) e;
+        },
+        (
+          record {
+            old-in = ng;
+            new-in = lowr (3 * (N + 1) + 1) (omega arith);
+            old-D = inr (inl (nxt-slot g));
+            new-D = inr (inr (let q : N ≤ (3 * (N + 1) + 1) / 3 = omega arith in q));
+            adj-is = rE .a1;
+            org-is = rE .o1 ∙ sym (to l h g hb pair);
+            dst-is = rE .d1;
+            con-is = rE .c1;
+            out = λ o e. out-g (nxt g) o ng (nxt-slot g) (nxt-not g) e;
+          },
+          tt,
+        ),
       ),
     ),
   )
@@ -161,7 +204,15 @@ module _ {S : ℕ → ℕ → Type 0} {m : Net} (l : Linked S m) (ap' : Apart m)
       rw (eqb-no (prv h) (nxt h) (nxt-not (nxt h)), self (nxt h)),
       (
         rw (eqb-no (prv h) (prv g) (en (prv h) (prv g) (nxt-slot2 h) (nxt-slot2 g)), eqb-no (nxt h) (prv g) (en (nxt h) (prv g) (nxt-slot h) (nxt-slot2 g)), self (prv g)),
-        (rw (eqb-no (prv h) (nxt g) (en (prv h) (nxt g) (nxt-slot2 h) (nxt-slot g)), eqb-no (nxt h) (nxt g) (en (nxt h) (nxt g) (nxt-slot h) (nxt-slot g)), eqb-no (prv g) (nxt g) (nxt-not (nxt g)), self (nxt g)), tt),
+        (
+          rw (
+            eqb-no (prv h) (nxt g) (en (prv h) (nxt g) (nxt-slot2 h) (nxt-slot g)),
+            eqb-no (nxt h) (nxt g) (en (nxt h) (nxt g) (nxt-slot h) (nxt-slot g)),
+            eqb-no (prv g) (nxt g) (nxt-not (nxt g)),
+            self (nxt g),
+          ),
+          tt,
+        ),
       ),
     ),
   )
@@ -193,19 +244,27 @@ module _ {S : ℕ → ℕ → Type 0} {m : Net} (l : Linked S m) (ap' : Apart m)
   new-in x (inl s) = go (edge t x s)
     where
       go : Edge t x → New S r D (edgeMoves m h g) x
-      go (e0 q) = subst (New S r D (edgeMoves m h g)) (sym q) (pairs (3 * t) (3 * (N + 1)) (omega arith) (inr (inr (let z : N ≤ 3 * (N + 1) / 3 = omega arith in z))) p (m .con h) (rA .a0) (rE .a0) (rE .o0) (rA .d0) (rE .c0) (rA .c0))
-      go (e1 q) = subst (New S r D (edgeMoves m h g)) (sym q) (pairs (3 * t + 1) (3 * N + 2) (omega arith) (inr (inr (let z : N ≤ (3 * N + 2) / 3 = omega arith in z))) (m .org (prv h)) 0 (rA .a1) (rB .a2) (rB .o2) (rA .d1) (rB .c2) (rA .c1))
+      go (e0 q) = subst (New S r D (edgeMoves m h g)) (sym q)
+          (pairs (3 * t) (3 * (N + 1)) (omega arith) (inr (inr (let z : N ≤ 3 * (N + 1) / 3 = omega arith in z))) p (m .con h) (rA .a0) (rE .a0)
+          (rE .o0) (rA .d0) (rE .c0) (rA .c0))
+      go (e1 q) = subst (New S r D (edgeMoves m h g)) (sym q)
+          (pairs (3 * t + 1) (3 * N + 2) (omega arith) (inr (inr (let z : N ≤ (3 * N + 2) / 3 = omega arith in z))) (m .org (prv h)) 0 (rA .a1)
+          (rB .a2) (rB .o2) (rA .d1) (rB .c2) (rA .c1))
       go (e2 q) = moved (mv (prv h) (3 * t + 2)) here (sym q)
   new-in x (inr (inl s)) = go (edge n x s)
     where
       go : Edge n x → New S r D (edgeMoves m h g) x
-      go (e0 q) = subst (New S r D (edgeMoves m h g)) (sym q) (pairs (3 * n) (3 * N) (omega arith) (inr (inr (let z : N ≤ 3 * N / 3 = omega arith in z))) p (m .con h) (rC .a0) (rB .a0) (rB .o0) (rC .d0) (rB .c0) (rC .c0))
-      go (e1 q) = subst (New S r D (edgeMoves m h g)) (sym q) (pairs (3 * n + 1) (3 * (N + 1) + 2) (omega arith) (inr (inr (let z : N ≤ (3 * (N + 1) + 2) / 3 = omega arith in z))) (m .org (prv g)) 0 (rC .a1) (rE .a2) (rE .o2) (rC .d1) (rE .c2) (rC .c1))
+      go (e0 q) = subst (New S r D (edgeMoves m h g)) (sym q)
+          (pairs (3 * n) (3 * N) (omega arith) (inr (inr (let z : N ≤ 3 * N / 3 = omega arith in z))) p (m .con h) (rC .a0) (rB .a0) (rB .o0) (rC .d0) (rB .c0) (rC .c0))
+      go (e1 q) = subst (New S r D (edgeMoves m h g)) (sym q)
+          (pairs (3 * n + 1) (3 * (N + 1) + 2) (omega arith) (inr (inr (let z : N ≤ (3 * (N + 1) + 2) / 3 = omega arith in z))) (m .org (prv g)) 0
+          (rC .a1) (rE .a2) (rE .o2) (rC .d1) (rE .c2) (rC .c1))
       go (e2 q) = moved (mv (prv g) (3 * n + 2)) (there (there here)) (sym q)
   new-in x (inr (inr (inl s))) = go (edge N x s)
     where
       go : Edge N x → New S r D (edgeMoves m h g) x
-      go (e0 q) = subst (New S r D (edgeMoves m h g)) (sym q) (pairs (3 * N) (3 * n) (let k = nN in omega arith) (inr (inl (slot0 n))) (m .org (nxt h)) (m .con h) (rB .a0) (rC .a0) (rC .o0) (rB .d0) (rC .c0) (rB .c0))
+      go (e0 q) = subst (New S r D (edgeMoves m h g)) (sym q)
+          (pairs (3 * N) (3 * n) (let k = nN in omega arith) (inr (inl (slot0 n))) (m .org (nxt h)) (m .con h) (rB .a0) (rC .a0) (rC .o0) (rB .d0) (rC .c0) (rB .c0))
       go (e1 q) = moved (mv (nxt h) (3 * N + 1)) (there here) (sym q)
       go (e2 q) = subst (New S r D (edgeMoves m h g)) (sym q) (pairs (3 * N + 2) (3 * t + 1) (omega arith) (inl (slot1 t)) p 0 (rB .a2) (rA .a1) (rA .o1) (rB .d2) (rA .c1) (rB .c2))
   new-in x (inr (inr (inr s))) = go (edge (N + 1) x s)
@@ -213,7 +272,8 @@ module _ {S : ℕ → ℕ → Type 0} {m : Net} (l : Linked S m) (ap' : Apart m)
       go : Edge (N + 1) x → New S r D (edgeMoves m h g) x
       go (e0 q) = subst (New S r D (edgeMoves m h g)) (sym q) (pairs (3 * (N + 1)) (3 * t) (omega arith) (inl (slot0 t)) (m .org h) (m .con h) (rE .a0) (rA .a0) (rA .o0) (rE .d0) (rA .c0) (rE .c0))
       go (e1 q) = moved (mv (nxt g) (3 * (N + 1) + 1)) (there (there (there here))) (sym q)
-      go (e2 q) = subst (New S r D (edgeMoves m h g)) (sym q) (pairs (3 * (N + 1) + 2) (3 * n + 1) (let k = nN in omega arith) (inr (inl (slot1 n))) p 0 (rE .a2) (rC .a1) (rC .o1) (rE .d2) (rC .c1) (rE .c2))
+      go (e2 q) = subst (New S r D (edgeMoves m h g)) (sym q)
+          (pairs (3 * (N + 1) + 2) (3 * n + 1) (let k = nN in omega arith) (inr (inl (slot1 n))) p 0 (rE .a2) (rC .a1) (rC .o1) (rE .d2) (rC .c1) (rE .c2))
 
   new-all : (x : ℕ) → x < 3 * r .tris → D (x / 3) → New S r D (edgeMoves m h g) x
   unfolding D

@@ -96,7 +96,8 @@ vol-nn a b c o = nn*nn (nn+nn (nn+nn (lift-nn a) (lift-nn b)) (lift-nn c)) (pos-
 
 volume-is : {P : ℕ → Pt ℤ} {B : Side → Pt ℤ} {k : ℕ} {m : Net} → Tiling P B k m → pos (volume P m) ≡ sumTo (m .tris) (tri P m vol)
 unfolding volume
-volume-is {P} {B} {k} {m} v = abs-is (sumTo (m .tris) (tri P m vol)) (sum-nn (m .tris) (tri P m vol) (λ t l. vol-nn (P (m .org (3 * t))) (P (m .org (3 * t + 1))) (P (m .org (3 * t + 2))) (v .ccw t l)))
+volume-is {P} {B} {k} {m} v = abs-is (sumTo (m .tris) (tri P m vol))
+    (sum-nn (m .tris) (tri P m vol) (λ t l. vol-nn (P (m .org (3 * t))) (P (m .org (3 * t + 1))) (P (m .org (3 * t + 2))) (v .ccw t l)))
 
 ranks-le : (P : ℕ → Pt ℤ) (B : Side → Pt ℤ) (k n : ℕ) (rk : ℕ → ℕ) (m : Net) → ((u : ℕ) → u < k → rk u < n) → Tiling P B k m → ranks rk n m ≤ m .tris * (3 * (n * n))
 unfolding ranks
@@ -159,7 +160,8 @@ module _ {P : ℕ → Pt ℤ} {B : Side → Pt ℤ} {k : ℕ} {m : Net} (v : Til
     unfolding ranks
     ranks-z =
         sum-pos (flip m h g .tris) (tri idn (flip m h g) (weights rk n)) ∙ flip-sum v h g hb pair idn wz wz-cyc ∙
-        ap (λ (x : ℤ). x +ℤ (wz (m .org h) (m .org (prv g)) (m .org (prv h)) -ℤ wz (m .org h) (m .org (nxt h)) (m .org (prv h))) +ℤ (wz (m .org (prv g)) (m .org (nxt h)) (m .org (prv h)) -ℤ wz (m .org (nxt h)) (m .org h) (m .org (prv g)))) (sym (sum-pos (m .tris) (tri idn m (weights rk n))))
+        ap (λ (x : ℤ). x +ℤ (wz (m .org h) (m .org (prv g)) (m .org (prv h)) -ℤ wz (m .org h) (m .org (nxt h)) (m .org (prv h))) +ℤ
+        (wz (m .org (prv g)) (m .org (nxt h)) (m .org (prv h)) -ℤ wz (m .org (nxt h)) (m .org h) (m .org (prv g)))) (sym (sum-pos (m .tris) (tri idn m (weights rk n))))
 
     moved : (r x y z w : ℤ) → r +ℤ (x -ℤ y) +ℤ (z -ℤ w) +ℤ (y +ℤ w) ≡ r +ℤ (x +ℤ z)
     moved r x y z w = solve (var 0 ⊕ (var 1 ⊖ var 2) ⊕ (var 3 ⊖ var 4) ⊕ (var 2 ⊕ var 4)) (var 0 ⊕ (var 1 ⊕ var 3)) (r ∷ x ∷ y ∷ z ∷ w ∷ []) tt
@@ -185,7 +187,8 @@ falls : (W W' M M' K s : ℕ) → M' < K → (W' < W) ⊎ ((W' ≡ W) × (M' < M
 falls W W' M M' K s b (inl l) = let k : W' * K + M' < W * K + M = row-lt W' W M' M K b l in omega arith
 falls W W' M M' K s b (inr p) = rw (p .0) (let l = p .1 in let k : W * K + M' < W * K + M = omega arith in let r : 3 * (W * K + M') + suc s < 3 * (W * K + M) + s = omega arith in r)
 
-module _ {P : ℕ → Pt ℤ} {B : Side → Pt ℤ} {k : ℕ} {m : Net} (v : Tiling P B k m) (rk : ℕ → ℕ) (n K : ℕ) (rb : (u : ℕ) → u < k → rk u < n) (room : m .tris * (3 * (n * n)) < K) (h g : ℕ) (hb : h < 3 * m .tris) (w : Wants P rk m h g) where
+module _ {P : ℕ → Pt ℤ} {B : Side → Pt ℤ} {k : ℕ} {m : Net} (v : Tiling P B k m) (rk : ℕ → ℕ) (n K : ℕ) (rb : (u : ℕ) → u < k → rk u < n)
+    (room : m .tris * (3 * (n * n)) < K) (h g : ℕ) (hb : h < 3 * m .tris) (w : Wants P rk m h g) where
   pub wanted-tile : Tiling P B k (flip m h g)
   wanted-tile = flip-tile v h g hb (w .pair) (w .ccw-t) (w .ccw-n)
 
@@ -205,7 +208,10 @@ module _ {P : ℕ → Pt ℤ} {B : Side → Pt ℤ} {k : ℕ} {m : Net} (v : Til
       rank : (x : ℕ) → x < 3 * m .tris → rk (m .org x) < n
       rank x l = rb (m .org x) (v .corners x l)
 
-      go : Pos (incircle (P (m .org h)) (P (m .org (nxt h))) (P (m .org (prv h))) (P (m .org (prv g)))) ⊎ ((incircle (P (m .org h)) (P (m .org (nxt h))) (P (m .org (prv h))) (P (m .org (prv g))) ≡ pos 0) × Lower rk (m .org (prv h)) (m .org (prv g)) (m .org h) (m .org (nxt h))) → (volume P (flip m h g) < volume P m) ⊎ ((volume P (flip m h g) ≡ volume P m) × (ranks rk n (flip m h g) < ranks rk n m))
+      go : Pos (incircle (P (m .org h)) (P (m .org (nxt h))) (P (m .org (prv h)))
+          (P (m .org (prv g)))) ⊎ ((incircle (P (m .org h)) (P (m .org (nxt h))) (P (m .org (prv h))) (P (m .org (prv g))) ≡ pos 0) ×
+          Lower rk (m .org (prv h)) (m .org (prv g)) (m .org h) (m .org (nxt h))) →
+          (volume P (flip m h g) < volume P m) ⊎ ((volume P (flip m h g) ≡ volume P m) × (ranks rk n (flip m h g) < ranks rk n m))
       go (inl p) = inl (volume-falls v h g hb (w .pair) wanted-tile p)
       go (inr p) =
           inr (

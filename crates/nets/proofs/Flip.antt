@@ -147,12 +147,56 @@ module _ {S : ℕ → ℕ → Type 0} {m : Net} (l : Linked S m) (ap' : Apart m)
     all-moved : All (Moved m r D) (flipMoves h g)
     unfolding flipMoves D
     all-moved = (
-      record { old-in = nxt-in g (m .tris) gb; new-in = in0 h hb; old-D = inr (nxt-slot g); new-D = inl (slot0 (h / 3)); adj-is = adj' .r0; org-is = org' .r0 ∙ sym (to l h g hb pair); dst-is = dst' .r0; con-is = con' .r0; out = λ o e. out-g (nxt g) o (nxt-in g (m .tris) gb) (nxt-slot g) (nxt-not g) e },
+      record {
+        old-in = nxt-in g (m .tris) gb;
+        new-in = in0 h hb;
+        old-D = inr (nxt-slot g);
+        new-D = inl (slot0 (h / 3));
+        adj-is = adj' .r0;
+        org-is = org' .r0 ∙ sym (to l h g hb pair);
+        dst-is = dst' .r0;
+        con-is = con' .r0;
+        out = λ o e. out-g (nxt g) o (nxt-in g (m .tris) gb) (nxt-slot g) (nxt-not g) e;
+      },
       (
-        record { old-in = nxt-in (nxt h) (m .tris) (nxt-in h (m .tris) hb); new-in = in2 h hb; old-D = inl (nxt-slot2 h); new-D = inl (slot2 (h / 3)); adj-is = adj' .r2; org-is = org' .r2; dst-is = dst' .r2 ∙ ap (m .org) (sym (nxt-three h)); con-is = con' .r2; out = λ o e. out-h (prv h) o (nxt-in (nxt h) (m .tris) (nxt-in h (m .tris) hb)) (nxt-slot2 h) (nxt-not2 h) e },
+        record {
+          old-in = nxt-in (nxt h) (m .tris) (nxt-in h (m .tris) hb);
+          new-in = in2 h hb;
+          old-D = inl (nxt-slot2 h);
+          new-D = inl (slot2 (h / 3));
+          adj-is = adj' .r2;
+          org-is = org' .r2;
+          dst-is = dst' .r2 ∙ ap (m .org) (sym (nxt-three h));
+          con-is = con' .r2;
+          out = λ o e. out-h (prv h) o (nxt-in (nxt h) (m .tris) (nxt-in h (m .tris) hb)) (nxt-slot2 h) (nxt-not2 h) e;
+        },
         (
-          record { old-in = nxt-in (nxt g) (m .tris) (nxt-in g (m .tris) gb); new-in = in0 g gb; old-D = inr (nxt-slot2 g); new-D = inr (slot0 (g / 3)); adj-is = adj' .q0; org-is = org' .q0; dst-is = dst' .q0 ∙ sym (l .from h g hb pair) ∙ ap (m .org) (sym (nxt-three g)); con-is = con' .q0; out = λ o e. out-g (prv g) o (nxt-in (nxt g) (m .tris) (nxt-in g (m .tris) gb)) (nxt-slot2 g) (nxt-not2 g) e },
-          (record { old-in = nxt-in h (m .tris) hb; new-in = in1 g gb; old-D = inl (nxt-slot h); new-D = inr (slot1 (g / 3)); adj-is = adj' .q1; org-is = org' .q1; dst-is = dst' .q1; con-is = con' .q1; out = λ o e. out-h (nxt h) o (nxt-in h (m .tris) hb) (nxt-slot h) (nxt-not h) e }, tt),
+          record {
+            old-in = nxt-in (nxt g) (m .tris) (nxt-in g (m .tris) gb);
+            new-in = in0 g gb;
+            old-D = inr (nxt-slot2 g);
+            new-D = inr (slot0 (g / 3));
+            adj-is = adj' .q0;
+            org-is = org' .q0;
+            dst-is = dst' .q0 ∙ sym (l .from h g hb pair)
+                ∙ ap (m .org) (sym (nxt-three g));
+            con-is = con' .q0;
+            out = λ o e. out-g (prv g) o (nxt-in (nxt g) (m .tris) (nxt-in g (m .tris) gb)) (nxt-slot2 g) (nxt-not2 g) e;
+          },
+          (
+            record {
+              old-in = nxt-in h (m .tris) hb;
+              new-in = in1 g gb;
+              old-D = inl (nxt-slot h);
+              new-D = inr (slot1 (g / 3));
+              adj-is = adj' .q1;
+              org-is = org' .q1;
+              dst-is = dst' .q1;
+              con-is = con' .q1;
+              out = λ o e. out-h (nxt h) o (nxt-in h (m .tris) hb) (nxt-slot h) (nxt-not h) e;
+            },
+            tt,
+          ),
         ),
       ),
     )
@@ -175,7 +219,15 @@ module _ {S : ℕ → ℕ → Type 0} {m : Net} (l : Linked S m) (ap' : Apart m)
         rw (eqb-no (nxt g) (prv h) (ne (nxt g) (prv h) (nxt-slot g) (nxt-slot2 h)), self (prv h)),
         (
           rw (eqb-no (nxt g) (prv g) (λ e. nxt-not (nxt g) (sym e)), eqb-no (prv h) (prv g) (en (prv h) (prv g) (nxt-slot2 h) (nxt-slot2 g)), self (prv g)),
-          (rw (eqb-no (nxt g) (nxt h) (ne (nxt g) (nxt h) (nxt-slot g) (nxt-slot h)), eqb-no (prv h) (nxt h) (nxt-not (nxt h)), eqb-no (prv g) (nxt h) (ne (prv g) (nxt h) (nxt-slot2 g) (nxt-slot h)), self (nxt h)), tt),
+          (
+            rw (
+              eqb-no (nxt g) (nxt h) (ne (nxt g) (nxt h) (nxt-slot g) (nxt-slot h)),
+              eqb-no (prv h) (nxt h) (nxt-not (nxt h)),
+              eqb-no (prv g) (nxt h) (ne (prv g) (nxt h) (nxt-slot2 g) (nxt-slot h)),
+              self (nxt h),
+            ),
+            tt,
+          ),
         ),
       ),
     )

@@ -38,7 +38,8 @@ unfolding orient
 area-flip = by4 (λ a b c d. orientE a d c ⊕ orientE d b c) (λ a b c d. orientE a b c ⊕ orientE b a d) tt
 
 keep-sum : (s x y p q : ℤ) → p +ℤ q ≡ x +ℤ y → s +ℤ (p -ℤ x) +ℤ (q -ℤ y) ≡ s
-keep-sum s x y p q e = solve (var 0 ⊕ (var 3 ⊖ var 1) ⊕ (var 4 ⊖ var 2)) (var 0 ⊕ (var 3 ⊕ var 4) ⊖ (var 1 ⊕ var 2)) (s ∷ x ∷ y ∷ p ∷ q ∷ []) tt ∙ ap (λ (z : ℤ). s +ℤ z -ℤ (x +ℤ y)) e ∙ solve (var 0 ⊕ var 1 ⊖ var 1) (var 0) (s ∷ (x +ℤ y) ∷ []) tt
+keep-sum s x y p q e = solve (var 0 ⊕ (var 3 ⊖ var 1) ⊕ (var 4 ⊖ var 2)) (var 0 ⊕ (var 3 ⊕ var 4) ⊖ (var 1 ⊕ var 2)) (s ∷ x ∷ y ∷ p ∷ q ∷ []) tt
+    ∙ ap (λ (z : ℤ). s +ℤ z -ℤ (x +ℤ y)) e ∙ solve (var 0 ⊕ var 1 ⊖ var 1) (var 0) (s ∷ (x +ℤ y) ∷ []) tt
 
 module _ {P : ℕ → Pt ℤ} {B : Side → Pt ℤ} {k : ℕ} {m : Net} (v : Tiling P B k m) where
   tri-pos : (h : ℕ) → h < 3 * m .tris → Pos (from P m orient h)

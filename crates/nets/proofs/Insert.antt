@@ -96,15 +96,20 @@ module _ {P : ℕ → Pt ℤ} {B : Side → Pt ℤ} {k : ℕ} {m : Net} (rk : �
   never : (i : ℕ) (q : List ℕ) → Mem i [] → Mem i q
   never i q = elim [ ]
 
-  at-inside : (t : ℕ) → t < m .tris → Pos (orient (P (m .org (3 * t))) (P (m .org (3 * t + 1))) (P k)) → Pos (orient (P (m .org (3 * t + 1))) (P (m .org (3 * t + 2))) (P k)) → Pos (orient (P (m .org (3 * t + 2))) (P (m .org (3 * t))) (P k)) → Inserted P B rk k m (insideSplit m t k)
+  at-inside : (t : ℕ) → t < m .tris → Pos (orient (P (m .org (3 * t))) (P (m .org (3 * t + 1))) (P k)) →
+      Pos (orient (P (m .org (3 * t + 1))) (P (m .org (3 * t + 2))) (P k)) → Pos (orient (P (m .org (3 * t + 2))) (P (m .org (3 * t))) (P k)) →
+      Inserted P B rk k m (insideSplit m t k)
   unfolding inside
   at-inside t tb x y z = record {
     tile = inside-tile v kk t k tb k1 x y z;
-    watched = λ f. watched-after (v .linked) (inside-surgery (v .linked) (tile-apart v) t k tb) [] q (nothing f) (λ i l d. mem i (subst (λ (n : ℕ). i < n) (inside-tris (v .linked) (tile-apart v) t k tb) (inside-low m t k i l)) d) (λ i n. never i q);
+    watched = λ f. watched-after (v .linked) (inside-surgery (v .linked) (tile-apart v) t k tb) [] q (nothing f)
+        (λ i l d. mem i (subst (λ (n : ℕ). i < n) (inside-tris (v .linked) (tile-apart v) t k tb) (inside-low m t k i l)) d) (λ i n. never i q);
     present = present-inside (v .linked) (tile-apart v) t tb k;
     unmarked = λ u. inside-unmarked m u t k tb;
     newest = subst (λ (n : ℕ). m .tris + 1 < n) (sym (inside-tris (v .linked) (tile-apart v) t k tb)) (omega arith);
-    count = two-more (inside-tris (v .linked) (tile-apart v) t k tb) (λ i. inside-pos (B i) (B (next i)) (B (next (next i))) (P (m .org (3 * t))) (P (m .org (3 * t + 1))) (P (m .org (3 * t + 2))) (P k) (turned i) (v .ccw t tb) (inn-at (3 * t) (omega arith) i) (inn-at (3 * t + 1) (omega arith) i) (inn-at (3 * t + 2) (omega arith) i) x y z);
+    count = two-more (inside-tris (v .linked) (tile-apart v) t k tb)
+        (λ i. inside-pos (B i) (B (next i)) (B (next (next i))) (P (m .org (3 * t))) (P (m .org (3 * t + 1))) (P (m .org (3 * t + 2))) (P k)
+        (turned i) (v .ccw t tb) (inn-at (3 * t) (omega arith) i) (inn-at (3 * t + 1) (omega arith) i) (inn-at (3 * t + 2) (omega arith) i) x y z);
   }
     where
       q : List ℕ
@@ -119,12 +124,14 @@ module _ {P : ℕ → Pt ℤ} {B : Side → Pt ℤ} {k : ℕ} {m : Net} (rk : �
           go (no n) = subst (λ (x : ℕ). Mem x q) (let e : m .tris + 1 ≡ i = omega arith in e) top
 
   -- on the open edge of half-edge h
-  module _ (h : ℕ) (hb : h < 3 * m .tris) (x : orient (P (m .org h)) (P (m .org (nxt h))) (P k) ≡ pos 0) (y : Pos (orient (P (m .org (nxt h))) (P (m .org (prv h))) (P k))) (z : Pos (orient (P (m .org (prv h))) (P (m .org h)) (P k))) where
+  module _ (h : ℕ) (hb : h < 3 * m .tris) (x : orient (P (m .org h)) (P (m .org (nxt h))) (P k) ≡ pos 0)
+      (y : Pos (orient (P (m .org (nxt h))) (P (m .org (prv h))) (P k))) (z : Pos (orient (P (m .org (prv h))) (P (m .org h)) (P k))) where
     alone : m .adj h ≡ 0 → Inserted P B rk k m (oneSide m h k)
     unfolding sideSplit
     alone e = record {
       tile = side-tile v kk h k hb k1 x y z e;
-      watched = λ f. watched-after (v .linked) (side-surgery (v .linked) (tile-apart v) h k hb e sa sb) [] q (nothing f) (λ i l d. mem i (subst (λ (n : ℕ). i < n) (side-tris (v .linked) (tile-apart v) h k hb e sa sb) (side-low m h k i l)) d) (λ i n. never i q);
+      watched = λ f. watched-after (v .linked) (side-surgery (v .linked) (tile-apart v) h k hb e sa sb) [] q (nothing f)
+          (λ i l d. mem i (subst (λ (n : ℕ). i < n) (side-tris (v .linked) (tile-apart v) h k hb e sa sb) (side-low m h k i l)) d) (λ i n. never i q);
       present = present-side (v .linked) (tile-apart v) h k hb e sa sb;
       unmarked = λ u. side-unmarked m u h k hb;
       newest = subst (λ (n : ℕ). m .tris < n) (sym (side-tris (v .linked) (tile-apart v) h k hb e sa sb)) (omega arith);
@@ -148,11 +155,15 @@ module _ {P : ℕ → Pt ℤ} {B : Side → Pt ℤ} {k : ℕ} {m : Net} (rk : �
     unfolding edgeSplit
     between g e = record {
       tile = edge-tile v kk h k hb k1 x y z g e;
-      watched = λ f. watched-after (v .linked) (edge-surgery (v .linked) (tile-apart v) h g hb e cd k) [] q (nothing f) (λ i l d. mem i (subst (λ (n : ℕ). i < n) (edge-tris (v .linked) (tile-apart v) h g hb e cd k) (edge-low m h g k i l)) d) (λ i n. never i q);
+      watched = λ f. watched-after (v .linked) (edge-surgery (v .linked) (tile-apart v) h g hb e cd k) [] q (nothing f)
+          (λ i l d. mem i (subst (λ (n : ℕ). i < n) (edge-tris (v .linked) (tile-apart v) h g hb e cd k) (edge-low m h g k i l)) d) (λ i n. never i q);
       present = present-edge (v .linked) (tile-apart v) h g hb e cd k;
       unmarked = λ u. edge-unmarked m u h g k hb gb;
       newest = subst (λ (n : ℕ). m .tris + 1 < n) (sym (edge-tris (v .linked) (tile-apart v) h g hb e cd k)) (omega arith);
-      count = two-more (edge-tris (v .linked) (tile-apart v) h g hb e cd k) (λ i. edge-pos (B i) (B (next i)) (B (next (next i))) (P (m .org h)) (P (m .org (nxt h))) (P (m .org (prv h))) (P k) (turned i) abc (inn-at h hb i) (inn-at (nxt h) nb i) (inn-at (prv h) (nxt-in (nxt h) (m .tris) nb) i) (P (m .org (prv g))) bad (inn-at (prv g) (nxt-in (nxt g) (m .tris) (nxt-in g (m .tris) gb)) i) x y z);
+      count = two-more (edge-tris (v .linked) (tile-apart v) h g hb e cd k)
+          (λ i. edge-pos (B i) (B (next i)) (B (next (next i))) (P (m .org h)) (P (m .org (nxt h))) (P (m .org (prv h))) (P k) (turned i) abc
+          (inn-at h hb i) (inn-at (nxt h) nb i) (inn-at (prv h) (nxt-in (nxt h) (m .tris) nb) i) (P (m .org (prv g))) bad
+          (inn-at (prv g) (nxt-in (nxt g) (m .tris) (nxt-in g (m .tris) gb)) i) x y z);
     }
       where
         cd : ¬ (m .org (prv h) ≡ m .org (prv g))
@@ -197,23 +208,27 @@ module _ {P : ℕ → Pt ℤ} {B : Side → Pt ℤ} {k : ℕ} {m : Net} (rk : �
       right' = pos-by (ap (λ (b : ℕ). orient (P (m .org (prv g))) (P b) (P k)) (v .linked .from h g hb e) ∙ orient-cyc (P (m .org (prv g))) (P (m .org (nxt h))) (P k)) (bpd v kk h k hb k1 x y z g e)
 
   -- of two triangles the one first in house order is split first
-  at-edge : (h : ℕ) → h < 3 * m .tris → orient (P (m .org h)) (P (m .org (nxt h))) (P k) ≡ pos 0 → Pos (orient (P (m .org (nxt h))) (P (m .org (prv h))) (P k)) → Pos (orient (P (m .org (prv h))) (P (m .org h)) (P k)) → Inserted P B rk k m (edgeCase m h (m .adj h) k)
+  at-edge : (h : ℕ) → h < 3 * m .tris → orient (P (m .org h)) (P (m .org (nxt h))) (P k) ≡ pos 0 →
+      Pos (orient (P (m .org (nxt h))) (P (m .org (prv h))) (P k)) → Pos (orient (P (m .org (prv h))) (P (m .org h)) (P k)) → Inserted P B rk k m (edgeCase m h (m .adj h) k)
   at-edge h hb x y z = go (m .adj h) refl
     where
       go : (a : ℕ) → m .adj h ≡ a → Inserted P B rk k m (edgeCase m h a k)
       go zero e = alone h hb x y z e
       go (suc g) e =
           by-test (earlier m (g / 3) (h / 3))
-          (λ t. subst (λ (b : Bool). Inserted P B rk k m (cond b (bothSides m g h k) (bothSides m h g k))) (sym t) (between g (gb' h hb x y z g e) (on' h hb x y z g e) (left' h hb x y z g e) (right' h hb x y z g e) h (v .linked .back h g hb e)))
+          (λ t. subst (λ (b : Bool). Inserted P B rk k m (cond b (bothSides m g h k) (bothSides m h g k))) (sym t)
+          (between g (gb' h hb x y z g e) (on' h hb x y z g e) (left' h hb x y z g e) (right' h hb x y z g e) h (v .linked .back h g hb e)))
           (λ t. subst (λ (b : Bool). Inserted P B rk k m (cond b (bothSides m g h k) (bothSides m h g k))) (sym t) (between h hb x y z g e))
 
   -- ---- where the point lies in its triangle
 
   along-yes : (h : ℕ) → orient (P (m .org h)) (P (m .org (nxt h))) (P k) ≡ pos 0 → along P m (P k) h ≡ suc h
-  along-yes h e = ap (λ (b : Bool). cond b (suc h) 0) (T-true (eqZ (orient (P (m .org h)) (P (m .org (nxt h))) (P k)) (pos 0)) (reads-eqZ (orient (P (m .org h)) (P (m .org (nxt h))) (P k)) (pos 0) .shows e))
+  along-yes h e = ap (λ (b : Bool). cond b (suc h) 0) (T-true (eqZ (orient (P (m .org h)) (P (m .org (nxt h))) (P k)) (pos 0))
+      (reads-eqZ (orient (P (m .org h)) (P (m .org (nxt h))) (P k)) (pos 0) .shows e))
 
   along-no : (h : ℕ) → Pos (orient (P (m .org h)) (P (m .org (nxt h))) (P k)) → along P m (P k) h ≡ 0
-  along-no h o = ap (λ (b : Bool). cond b (suc h) 0) (not-T-false (eqZ (orient (P (m .org h)) (P (m .org (nxt h))) (P k)) (pos 0)) (λ t. not-zero o (reads-eqZ (orient (P (m .org h)) (P (m .org (nxt h))) (P k)) (pos 0) .says t)))
+  along-no h o = ap (λ (b : Bool). cond b (suc h) 0) (not-T-false (eqZ (orient (P (m .org h)) (P (m .org (nxt h))) (P k)) (pos 0))
+      (λ t. not-zero o (reads-eqZ (orient (P (m .org h)) (P (m .org (nxt h))) (P k)) (pos 0) .says t)))
 
   module _ (fresh : (u : ℕ) → u < k → ¬ (P k ≡ P u)) where
     -- the new point is no corner: two of the three are not both zero
@@ -250,27 +265,32 @@ module _ {P : ℕ → Pt ℤ} {B : Side → Pt ℤ} {k : ℕ} {m : Net} (rk : �
       not-both01 x y = apart (m .org (3 * t)) (m .org (3 * t + 1)) (m .org (3 * t + 2)) (v .corners (3 * t + 1) l1) abc (rw (nxt0 t) at x) (rw (nxt1 t) at y)
 
       not-both12 : O (3 * t + 1) ≡ pos 0 → O (3 * t + 2) ≡ pos 0 → ⊥
-      not-both12 x y = apart (m .org (3 * t + 1)) (m .org (3 * t + 2)) (m .org (3 * t)) (v .corners (3 * t + 2) l2) (pos-by (sym (orient-cyc (P (m .org (3 * t))) (P (m .org (3 * t + 1))) (P (m .org (3 * t + 2))))) abc) (rw (nxt1 t) at x) (rw (nxt2 t) at y)
+      not-both12 x y = apart (m .org (3 * t + 1)) (m .org (3 * t + 2)) (m .org (3 * t)) (v .corners (3 * t + 2) l2)
+          (pos-by (sym (orient-cyc (P (m .org (3 * t))) (P (m .org (3 * t + 1))) (P (m .org (3 * t + 2))))) abc) (rw (nxt1 t) at x) (rw (nxt2 t) at y)
 
       not-both20 : O (3 * t + 2) ≡ pos 0 → O (3 * t) ≡ pos 0 → ⊥
-      not-both20 x y = apart (m .org (3 * t + 2)) (m .org (3 * t)) (m .org (3 * t + 1)) (v .corners (3 * t) l0) (pos-by (orient-cyc (P (m .org (3 * t + 2))) (P (m .org (3 * t))) (P (m .org (3 * t + 1)))) abc) (rw (nxt2 t) at x) (rw (nxt0 t) at y)
+      not-both20 x y = apart (m .org (3 * t + 2)) (m .org (3 * t)) (m .org (3 * t + 1)) (v .corners (3 * t) l0)
+          (pos-by (orient-cyc (P (m .org (3 * t + 2))) (P (m .org (3 * t))) (P (m .org (3 * t + 1)))) abc) (rw (nxt2 t) at x) (rw (nxt0 t) at y)
 
       by-signs : Pos (O (3 * t)) ⊎ (O (3 * t) ≡ pos 0) → Pos (O (3 * t + 1)) ⊎ (O (3 * t + 1) ≡ pos 0) → Pos (O (3 * t + 2)) ⊎ (O (3 * t + 2) ≡ pos 0) → Inserted P B rk k m (splitIn P m t k)
       unfolding splitIn edgeAt
       by-signs (inl x) (inl y) (inl z) =
           subst (λ (u : ℕ). Inserted P B rk k m (placeCase m t u k))
-          (sym (ap (λ (u : ℕ). orElse u (orElse (along P m (P k) (3 * t + 1)) (along P m (P k) (3 * t + 2)))) (along-no (3 * t) x) ∙ ap (λ (u : ℕ). orElse u (along P m (P k) (3 * t + 2))) (along-no (3 * t + 1) y) ∙ along-no (3 * t + 2) z))
+          (sym (ap (λ (u : ℕ). orElse u (orElse (along P m (P k) (3 * t + 1)) (along P m (P k) (3 * t + 2)))) (along-no (3 * t) x)
+          ∙ ap (λ (u : ℕ). orElse u (along P m (P k) (3 * t + 2))) (along-no (3 * t + 1) y) ∙ along-no (3 * t + 2) z))
           (at-inside t tb (rw (nxt0 t) at x) (rw (nxt1 t) at y) (rw (nxt2 t) at z))
       by-signs (inr x) (inl y) (inl z) =
           on-edge (3 * t) (ap (λ (u : ℕ). orElse u (orElse (along P m (P k) (3 * t + 1)) (along P m (P k) (3 * t + 2)))) (along-yes (3 * t) x))
           (turned-edge (3 * t) (3 * t + 1) (3 * t + 2) l0 (nxt0 t) (nxt1 t) x y z)
       by-signs (inl x) (inr y) (inl z) =
           on-edge (3 * t + 1)
-          (ap (λ (u : ℕ). orElse u (orElse (along P m (P k) (3 * t + 1)) (along P m (P k) (3 * t + 2)))) (along-no (3 * t) x) ∙ ap (λ (u : ℕ). orElse u (along P m (P k) (3 * t + 2))) (along-yes (3 * t + 1) y))
+          (ap (λ (u : ℕ). orElse u (orElse (along P m (P k) (3 * t + 1)) (along P m (P k) (3 * t + 2)))) (along-no (3 * t) x)
+          ∙ ap (λ (u : ℕ). orElse u (along P m (P k) (3 * t + 2))) (along-yes (3 * t + 1) y))
           (turned-edge (3 * t + 1) (3 * t + 2) (3 * t) l1 (nxt1 t) (nxt2 t) y z x)
       by-signs (inl x) (inl y) (inr z) =
           on-edge (3 * t + 2)
-          (ap (λ (u : ℕ). orElse u (orElse (along P m (P k) (3 * t + 1)) (along P m (P k) (3 * t + 2)))) (along-no (3 * t) x) ∙ ap (λ (u : ℕ). orElse u (along P m (P k) (3 * t + 2))) (along-no (3 * t + 1) y) ∙ along-yes (3 * t + 2) z)
+          (ap (λ (u : ℕ). orElse u (orElse (along P m (P k) (3 * t + 1)) (along P m (P k) (3 * t + 2)))) (along-no (3 * t) x)
+          ∙ ap (λ (u : ℕ). orElse u (along P m (P k) (3 * t + 2))) (along-no (3 * t + 1) y) ∙ along-yes (3 * t + 2) z)
           (turned-edge (3 * t + 2) (3 * t) (3 * t + 1) l2 (nxt2 t) (nxt0 t) z x y)
       by-signs (inr x) (inr y) z = absurd (not-both01 x y)
       by-signs (inr x) (inl y) (inr z) = absurd (not-both20 z x)

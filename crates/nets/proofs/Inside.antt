@@ -43,11 +43,14 @@ module _ {S : ℕ → ℕ → Type 0} {m : Net} (l : Linked S m) (ap' : Apart m)
 
   rA : Reads r t (inA m t p)
   unfolding r insideRaw
-  rA = reads-grow (write (write (write m t (inA m t p)) N (inB m t p)) (N + 1) (inC m t p)) 2 t (inA m t p) (reads-there (write (write m t (inA m t p)) N (inB m t p)) (N + 1) t (inC m t p) (inA m t p) tN1 (reads-there (write m t (inA m t p)) N t (inB m t p) (inA m t p) tN (reads-here m t (inA m t p))))
+  rA = reads-grow (write (write (write m t (inA m t p)) N (inB m t p)) (N + 1) (inC m t p)) 2 t (inA m t p)
+      (reads-there (write (write m t (inA m t p)) N (inB m t p)) (N + 1) t (inC m t p) (inA m t p) tN1
+      (reads-there (write m t (inA m t p)) N t (inB m t p) (inA m t p) tN (reads-here m t (inA m t p))))
 
   rB : Reads r N (inB m t p)
   unfolding r insideRaw
-  rB = reads-grow (write (write (write m t (inA m t p)) N (inB m t p)) (N + 1) (inC m t p)) 2 N (inB m t p) (reads-there (write (write m t (inA m t p)) N (inB m t p)) (N + 1) N (inC m t p) (inB m t p) NN1 (reads-here (write m t (inA m t p)) N (inB m t p)))
+  rB = reads-grow (write (write (write m t (inA m t p)) N (inB m t p)) (N + 1) (inC m t p)) 2 N (inB m t p)
+      (reads-there (write (write m t (inA m t p)) N (inB m t p)) (N + 1) N (inC m t p) (inB m t p) NN1 (reads-here (write m t (inA m t p)) N (inB m t p)))
 
   rC : Reads r (N + 1) (inC m t p)
   unfolding r insideRaw
@@ -91,10 +94,44 @@ module _ {S : ℕ → ℕ → Type 0} {m : Net} (l : Linked S m) (ap' : Apart m)
   all-moved : All (Moved m r D) (insideMoves m t)
   unfolding insideMoves D
   all-moved = (
-    record { old-in = i0; new-in = lowr (3 * t) (omega arith); old-D = inl (slot0 t); new-D = inl (slot0 t); adj-is = rA .a0; org-is = rA .o0; dst-is = rA .d0 ∙ ap (m .org) (sym (nxt0 t)); con-is = rA .c0; out = λ o e. out (3 * t) o i0 (slot0 t) e },
+    record {
+      old-in = i0;
+      new-in = lowr (3 * t) (omega arith);
+      old-D = inl (slot0 t);
+      new-D = inl (slot0 t);
+      adj-is = rA .a0;
+      org-is = rA .o0;
+      dst-is = rA .d0 ∙ ap (m .org) (sym (nxt0 t));
+      con-is = rA .c0;
+      out = λ o e. out (3 * t) o i0 (slot0 t) e;
+    },
     (
-      record { old-in = i1; new-in = lowr (3 * N) (omega arith); old-D = inl (slot1 t); new-D = inr (let q : N ≤ 3 * N / 3 = omega arith in q); adj-is = rB .a0; org-is = rB .o0; dst-is = rB .d0 ∙ ap (m .org) (sym (nxt1 t)); con-is = rB .c0; out = λ o e. out (3 * t + 1) o i1 (slot1 t) e },
-      (record { old-in = i2; new-in = lowr (3 * (N + 1)) (omega arith); old-D = inl (slot2 t); new-D = inr (let q : N ≤ 3 * (N + 1) / 3 = omega arith in q); adj-is = rC .a0; org-is = rC .o0; dst-is = rC .d0 ∙ ap (m .org) (sym (nxt2 t)); con-is = rC .c0; out = λ o e. out (3 * t + 2) o i2 (slot2 t) e }, tt),
+      record {
+        old-in = i1;
+        new-in = lowr (3 * N) (omega arith);
+        old-D = inl (slot1 t);
+        new-D = inr (let q : N ≤ 3 * N / 3 = omega arith in q);
+        adj-is = rB .a0;
+        org-is = rB .o0;
+        dst-is = rB .d0 ∙ ap (m .org) (sym (nxt1 t));
+        con-is = rB .c0;
+        out = λ o e. out (3 * t + 1) o i1 (slot1 t) e;
+      },
+      (
+        record {
+          old-in = i2;
+          new-in = lowr (3 * (N + 1)) (omega arith);
+          old-D = inl (slot2 t);
+          new-D = inr (let q : N ≤ 3 * (N + 1) / 3 = omega arith in q);
+          adj-is = rC .a0;
+          org-is = rC .o0;
+          dst-is = rC .d0
+              ∙ ap (m .org) (sym (nxt2 t));
+          con-is = rC .c0;
+          out = λ o e. out (3 * t + 2) o i2 (slot2 t) e;
+        },
+        tt,
+      ),
     ),
   )
 
@@ -131,20 +168,26 @@ module _ {S : ℕ → ℕ → Type 0} {m : Net} (l : Linked S m) (ap' : Apart m)
     where
       go : Edge t x → New S r D (insideMoves m t) x
       go (e0 q) = moved (mv (3 * t) (3 * t)) here (sym q)
-      go (e1 q) = subst (New S r D (insideMoves m t)) (sym q) (pairs (3 * t + 1) (3 * N + 2) (omega arith) (inr (let z : N ≤ (3 * N + 2) / 3 = omega arith in z)) p (rA .a1) (rB .a2) (rB .o2) (rA .d1) (rB .c2) (rA .c1))
-      go (e2 q) = subst (New S r D (insideMoves m t)) (sym q) (pairs (3 * t + 2) (3 * (N + 1) + 1) (omega arith) (inr (let z : N ≤ (3 * (N + 1) + 1) / 3 = omega arith in z)) (m .org (3 * t)) (rA .a2) (rC .a1) (rC .o1) (rA .d2) (rC .c1) (rA .c2))
+      go (e1 q) = subst (New S r D (insideMoves m t)) (sym q)
+          (pairs (3 * t + 1) (3 * N + 2) (omega arith) (inr (let z : N ≤ (3 * N + 2) / 3 = omega arith in z)) p (rA .a1) (rB .a2) (rB .o2) (rA .d1) (rB .c2) (rA .c1))
+      go (e2 q) = subst (New S r D (insideMoves m t)) (sym q)
+          (pairs (3 * t + 2) (3 * (N + 1) + 1) (omega arith) (inr (let z : N ≤ (3 * (N + 1) + 1) / 3 = omega arith in z)) (m .org (3 * t)) (rA .a2)
+          (rC .a1) (rC .o1) (rA .d2) (rC .c1) (rA .c2))
   new-in x (inr (inl s)) = go (edge N x s)
     where
       go : Edge N x → New S r D (insideMoves m t) x
       go (e0 q) = moved (mv (3 * t + 1) (3 * N)) (there here) (sym q)
-      go (e1 q) = subst (New S r D (insideMoves m t)) (sym q) (pairs (3 * N + 1) (3 * (N + 1) + 2) (omega arith) (inr (let z : N ≤ (3 * (N + 1) + 2) / 3 = omega arith in z)) p (rB .a1) (rC .a2) (rC .o2) (rB .d1) (rC .c2) (rB .c1))
+      go (e1 q) = subst (New S r D (insideMoves m t)) (sym q)
+          (pairs (3 * N + 1) (3 * (N + 1) + 2) (omega arith) (inr (let z : N ≤ (3 * (N + 1) + 2) / 3 = omega arith in z)) p (rB .a1) (rC .a2) (rC .o2) (rB .d1) (rC .c2) (rB .c1))
       go (e2 q) = subst (New S r D (insideMoves m t)) (sym q) (pairs (3 * N + 2) (3 * t + 1) (omega arith) (inl (slot1 t)) (m .org (3 * t + 1)) (rB .a2) (rA .a1) (rA .o1) (rB .d2) (rA .c1) (rB .c2))
   new-in x (inr (inr s)) = go (edge (N + 1) x s)
     where
       go : Edge (N + 1) x → New S r D (insideMoves m t) x
       go (e0 q) = moved (mv (3 * t + 2) (3 * (N + 1))) (there (there here)) (sym q)
       go (e1 q) = subst (New S r D (insideMoves m t)) (sym q) (pairs (3 * (N + 1) + 1) (3 * t + 2) (omega arith) (inl (slot2 t)) p (rC .a1) (rA .a2) (rA .o2) (rC .d1) (rA .c2) (rC .c1))
-      go (e2 q) = subst (New S r D (insideMoves m t)) (sym q) (pairs (3 * (N + 1) + 2) (3 * N + 1) (omega arith) (inr (let z : N ≤ (3 * N + 1) / 3 = omega arith in z)) (m .org (3 * t + 2)) (rC .a2) (rB .a1) (rB .o1) (rC .d2) (rB .c1) (rC .c2))
+      go (e2 q) = subst (New S r D (insideMoves m t)) (sym q)
+          (pairs (3 * (N + 1) + 2) (3 * N + 1) (omega arith) (inr (let z : N ≤ (3 * N + 1) / 3 = omega arith in z)) (m .org (3 * t + 2)) (rC .a2)
+          (rB .a1) (rB .o1) (rC .d2) (rB .c1) (rC .c2))
 
   new-all : (x : ℕ) → x < 3 * r .tris → D (x / 3) → New S r D (insideMoves m t) x
   unfolding D

@@ -51,7 +51,8 @@ module _ (u v w a b c p : Pt ℤ) (base : Pos (orient u v w)) (abc : Pos (orient
   inside-pos x y z =
       pos-cancel (pos-nn abc)
       (pos-by (line-poly u v p a b c)
-      (weigh3 (orient p b c) (orient a p c) (orient a b p) (orient u v a) (orient u v b) (orient u v c) (pos-by (orient-cyc p b c) y) (pos-by (sym (orient-cyc c a p)) z) x ia ib ic (not-flat u v w a b c base abc)))
+      (weigh3 (orient p b c) (orient a p c) (orient a b p) (orient u v a) (orient u v b) (orient u v c) (pos-by (orient-cyc p b c) y)
+      (pos-by (sym (orient-cyc c a p)) z) x ia ib ic (not-flat u v w a b c base abc)))
 
   -- a and b on the line: then c and d, on two sides of it, both
   pub two-sides : (d : Pt ℤ) → Pos (orient b a d) → NonNeg (orient u v d) → orient u v a ≡ pos 0 → orient u v b ≡ pos 0 → ⊥
@@ -59,7 +60,9 @@ module _ (u v w a b c p : Pt ℤ) (base : Pos (orient u v w)) (abc : Pos (orient
     where
       sum : orient a b c *ℤ orient u v d +ℤ orient u v c *ℤ orient b a d ≡ pos 0
       sum =
-          ap (λ (q : ℤ). q +ℤ orient u v c *ℤ orient b a d) (line-poly u v d a b c ∙ ap₂ (λ (x y : ℤ). x +ℤ y +ℤ orient u v c *ℤ orient a b d) (zap i (orient d b c)) (zap j (orient a d c)) ∙ ap (λ (q : ℤ). pos 0 +ℤ pos 0 +ℤ orient u v c *ℤ q) (orient-swap a b d)) ∙
+          ap (λ (q : ℤ). q +ℤ orient u v c *ℤ orient b a d) (line-poly u v d a b c
+          ∙ ap₂ (λ (x y : ℤ). x +ℤ y +ℤ orient u v c *ℤ orient a b d) (zap i (orient d b c)) (zap j (orient a d c))
+          ∙ ap (λ (q : ℤ). pos 0 +ℤ pos 0 +ℤ orient u v c *ℤ q) (orient-swap a b d)) ∙
           solve (con (pos 0) ⊕ con (pos 0) ⊕ var 0 ⊗ (⊝ var 1) ⊕ var 0 ⊗ var 1) (con (pos 0)) (orient u v c ∷ orient b a d ∷ []) tt
 
       go : Pos (orient u v c) ⊎ (orient u v c ≡ pos 0) → ⊥

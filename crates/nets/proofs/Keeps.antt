@@ -93,7 +93,8 @@ module _ (n : ℕ) where
 
   hint-kept : (w : List ℕ) (s v : ℕ) → v < n → Kept n w (hint s v w)
   unfolding hint
-  hint-kept w s v l = kept-set n w (hintCell v) s (let z : 16 * v + 12 < 64 * n = omega arith in z) (let z : ¬ ((16 * v + 12) % 16 ≡ 11) = omega arith in z) (let z : (16 * v + 12) % 16 < 13 = omega arith in z)
+  hint-kept w s v l = kept-set n w (hintCell v) s (let z : 16 * v + 12 < 64 * n = omega arith in z)
+      (let z : ¬ ((16 * v + 12) % 16 ≡ 11) = omega arith in z) (let z : (16 * v + 12) % 16 < 13 = omega arith in z)
 
   pub born-kept : (w : List ℕ) (s : ℕ) (x : Rec) → 16 * s + 9 ≤ 64 * n → x .v0 < n → x .v1 < n → x .v2 < n → Kept n w (born w s x)
   unfolding born
@@ -126,7 +127,8 @@ module _ (n : ℕ) where
   tells-kept : (adj : ℕ → ℕ) (T : ℕ) → T ≤ 4 * n → (L : List Move) (w : List ℕ) → All (λ v. adj (v .old) ≤ 3 * T) L → Kept n w (tells adj L w)
   unfolding tells
   tells-kept adj T r [] w a = kept-same n w
-  tells-kept adj T r (v ∷ L) w a = kept-then n w (tells adj L w) (tell (adj (v .old)) (v .new) (tells adj L w)) (tells-kept adj T r L w (a .1)) (tell-kept (tells adj L w) (adj (v .old)) (v .new) T (a .0) r)
+  tells-kept adj T r (v ∷ L) w a = kept-then n w (tells adj L w) (tell (adj (v .old)) (v .new) (tells adj L w)) (tells-kept adj T r L w (a .1))
+      (tell-kept (tells adj L w) (adj (v .old)) (v .new) T (a .0) r)
 
   module _ (w : List ℕ) (T : ℕ) (room : T ≤ 4 * n) (corners : (h : ℕ) → h < 3 * T → netOf w T .org h < n) (partners : (h : ℕ) → h < 3 * T → netOf w T .adj h ≤ 3 * T) where
     abbrev m : Net

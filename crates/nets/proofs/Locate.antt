@@ -112,9 +112,12 @@ module _ {P : ℕ → Pt ℤ} {B : Side → Pt ℤ} {k : ℕ} {m : Net} (v : Til
 
   inner : (i : Side) → Pos (line (B i) (B (next i)) q)
   unfolding q
-  inner s0 = pos-by (toward-line K (B s0) (B s1) p (B s0) (B s1) (B s2) ∙ ap (λ (z : ℤ). pos K *ℤ orient (B s0) (B s1) p +ℤ z) (base0 (B s0) (B s1) (B s2))) (nn+pos (nn*nn (nn-pos K) (within s0)) (v .base-ccw))
-  inner s1 = pos-by (toward-line K (B s1) (B s2) p (B s0) (B s1) (B s2) ∙ ap (λ (z : ℤ). pos K *ℤ orient (B s1) (B s2) p +ℤ z) (base1 (B s0) (B s1) (B s2))) (nn+pos (nn*nn (nn-pos K) (within s1)) (v .base-ccw))
-  inner s2 = pos-by (toward-line K (B s2) (B s0) p (B s0) (B s1) (B s2) ∙ ap (λ (z : ℤ). pos K *ℤ orient (B s2) (B s0) p +ℤ z) (base2 (B s0) (B s1) (B s2))) (nn+pos (nn*nn (nn-pos K) (within s2)) (v .base-ccw))
+  inner s0 = pos-by (toward-line K (B s0) (B s1) p (B s0) (B s1) (B s2)
+      ∙ ap (λ (z : ℤ). pos K *ℤ orient (B s0) (B s1) p +ℤ z) (base0 (B s0) (B s1) (B s2))) (nn+pos (nn*nn (nn-pos K) (within s0)) (v .base-ccw))
+  inner s1 = pos-by (toward-line K (B s1) (B s2) p (B s0) (B s1) (B s2)
+      ∙ ap (λ (z : ℤ). pos K *ℤ orient (B s1) (B s2) p +ℤ z) (base1 (B s0) (B s1) (B s2))) (nn+pos (nn*nn (nn-pos K) (within s1)) (v .base-ccw))
+  inner s2 = pos-by (toward-line K (B s2) (B s0) p (B s0) (B s1) (B s2)
+      ∙ ap (λ (z : ℤ). pos K *ℤ orient (B s2) (B s0) p +ℤ z) (base2 (B s0) (B s1) (B s2))) (nn+pos (nn*nn (nn-pos K) (within s2)) (v .base-ccw))
 
   back : (h : ℕ) → h < 3 * m .tris → (w : Pt ℤ) → P (dst m h) ≡ w → NonNeg (line (P (m .org h)) w q) → NonNeg (orient (P (m .org h)) w p)
   unfolding q K lean
@@ -200,8 +203,11 @@ module _ {P : ℕ → Pt ℤ} {B : Side → Pt ℤ} {k : ℕ} {m : Net} (v : Til
 
       go : Edge t h → Strictly q (P (m .org (3 * t))) (P (m .org (3 * t + 1))) (P (m .org (3 * t + 2)))
       go (e0 e) = rw (nxt0 t, nxt1 t) at (subst (λ (x : ℕ). Strictly q (P (m .org x)) (P (m .org (nxt x))) (P (m .org (nxt (nxt x))))) e s)
-      go (e1 e) = strictly-turn q (o (3 * t + 2)) (o (3 * t)) (o (3 * t + 1)) (strictly-turn q (o (3 * t + 1)) (o (3 * t + 2)) (o (3 * t)) (rw (nxt1 t, nxt2 t) at (subst (λ (x : ℕ). Strictly q (P (m .org x)) (P (m .org (nxt x))) (P (m .org (nxt (nxt x))))) e s)))
-      go (e2 e) = strictly-turn q (o (3 * t + 2)) (o (3 * t)) (o (3 * t + 1)) (rw (nxt2 t, nxt0 t) at (subst (λ (x : ℕ). Strictly q (P (m .org x)) (P (m .org (nxt x))) (P (m .org (nxt (nxt x))))) e s))
+      go (e1 e) = strictly-turn q (o (3 * t + 2)) (o (3 * t)) (o (3 * t + 1))
+          (strictly-turn q (o (3 * t + 1)) (o (3 * t + 2)) (o (3 * t))
+          (rw (nxt1 t, nxt2 t) at (subst (λ (x : ℕ). Strictly q (P (m .org x)) (P (m .org (nxt x))) (P (m .org (nxt (nxt x))))) e s)))
+      go (e2 e) = strictly-turn q (o (3 * t + 2)) (o (3 * t)) (o (3 * t + 1))
+          (rw (nxt2 t, nxt0 t) at (subst (λ (x : ℕ). Strictly q (P (m .org x)) (P (m .org (nxt x))) (P (m .org (nxt (nxt x))))) e s))
 
   tri-pos : (h : ℕ) → h < 3 * m .tris → Pos (from P m orient h)
   tri-pos h b = pos-by (sym (tri-from P m orient orient-cyc h)) (v .ccw (h / 3) (let z : h / 3 < m .tris = omega arith in z))

@@ -131,8 +131,10 @@ set3-put w f s x y z l h = go (ℕ-discrete (h / 3) s)
     c2 s = omega arith
 
     at : Edge s h → getD (set3 w i x y z) (cell f h) 0 ≡ put g s x y z h
-    at (e0 e) = ap (λ (u : ℕ). getD (set3 w i x y z) (cell f u) 0) e ∙ ap (λ (u : ℕ). getD (set3 w i x y z) u 0) (c0 s) ∙ set3-0 w i x y z (omega arith) ∙ sym (put-0 g s x y z) ∙ ap (put g s x y z) (sym e)
-    at (e1 e) = ap (λ (u : ℕ). getD (set3 w i x y z) (cell f u) 0) e ∙ ap (λ (u : ℕ). getD (set3 w i x y z) u 0) (c1 s) ∙ set3-1 w i x y z (omega arith) ∙ sym (put-1 g s x y z) ∙ ap (put g s x y z) (sym e)
+    at (e0 e) = ap (λ (u : ℕ). getD (set3 w i x y z) (cell f u) 0) e ∙ ap (λ (u : ℕ). getD (set3 w i x y z) u 0) (c0 s)
+        ∙ set3-0 w i x y z (omega arith) ∙ sym (put-0 g s x y z) ∙ ap (put g s x y z) (sym e)
+    at (e1 e) = ap (λ (u : ℕ). getD (set3 w i x y z) (cell f u) 0) e ∙ ap (λ (u : ℕ). getD (set3 w i x y z) u 0) (c1 s)
+        ∙ set3-1 w i x y z (omega arith) ∙ sym (put-1 g s x y z) ∙ ap (put g s x y z) (sym e)
     at (e2 e) = ap (λ (u : ℕ). getD (set3 w i x y z) (cell f u) 0) e ∙ ap (λ (u : ℕ). getD (set3 w i x y z) u 0) (c2 s) ∙ set3-2 w i x y z l ∙ sym (put-2 g s x y z) ∙ ap (put g s x y z) (sym e)
 
     go : Dec (h / 3 ≡ s) → getD (set3 w i x y z) (cell f h) 0 ≡ put g s x y z h
@@ -173,7 +175,9 @@ put-is w s x =
 
 pub put-length : (w : List ℕ) (s : ℕ) (x : Rec) → length (putRec w s x) ≡ length w
 unfolding put3
-put-length w s x = ap length (put-is w s x) ∙ set3-length (set3 (set3 w (16 * s + 0) (x .v0) (x .v1) (x .v2)) (16 * s + 3) (x .a0) (x .a1) (x .a2)) (16 * s + 6) (x .c0) (x .c1) (x .c2) ∙ set3-length (set3 w (16 * s + 0) (x .v0) (x .v1) (x .v2)) (16 * s + 3) (x .a0) (x .a1) (x .a2) ∙ set3-length w (16 * s + 0) (x .v0) (x .v1) (x .v2)
+put-length w s x = ap length (put-is w s x) ∙ set3-length (set3 (set3 w (16 * s + 0) (x .v0) (x .v1) (x .v2)) (16 * s + 3) (x .a0) (x .a1) (x .a2))
+    (16 * s + 6) (x .c0) (x .c1) (x .c2) ∙ set3-length (set3 w (16 * s + 0) (x .v0) (x .v1) (x .v2)) (16 * s + 3) (x .a0) (x .a1) (x .a2)
+    ∙ set3-length w (16 * s + 0) (x .v0) (x .v1) (x .v2)
 
 pub net-put : (w : List ℕ) (T s : ℕ) (x : Rec) → 16 * s + 9 ≤ length w → netOf (putRec w s x) T ≡ write (netOf w T) s x
 unfolding netOf put3 write
@@ -198,7 +202,8 @@ net-put w T s x l = ap (λ (u : List ℕ). netOf u T) (put-is w s x) ∙ net-eq 
     same f u u' a b c h e = ap (λ (k : ℕ → ℕ). put k s a b c h) (fun-ext e)
 
     org : (h : ℕ) → getD w3 (cell 0 h) 0 ≡ put (λ q. getD w (cell 0 q) 0) s (x .v0) (x .v1) (x .v2) h
-    org h = set3-other w2 6 0 s (x .c0) (x .c1) (x .c2) (omega arith) (omega arith) h ∙ set3-other w1 3 0 s (x .a0) (x .a1) (x .a2) (omega arith) (omega arith) h ∙ set3-put w 0 s (x .v0) (x .v1) (x .v2) (omega arith) h
+    org h = set3-other w2 6 0 s (x .c0) (x .c1) (x .c2) (omega arith) (omega arith) h
+        ∙ set3-other w1 3 0 s (x .a0) (x .a1) (x .a2) (omega arith) (omega arith) h ∙ set3-put w 0 s (x .v0) (x .v1) (x .v2) (omega arith) h
 
     adj : (h : ℕ) → getD w3 (cell 3 h) 0 ≡ put (λ q. getD w (cell 3 q) 0) s (x .a0) (x .a1) (x .a2) h
     adj h =
@@ -208,4 +213,5 @@ net-put w T s x l = ap (λ (u : List ℕ). netOf u T) (put-is w s x) ∙ net-eq 
     con : (h : ℕ) → getD w3 (cell 6 h) 0 ≡ put (λ q. getD w (cell 6 q) 0) s (x .c0) (x .c1) (x .c2) h
     con h =
         set3-put w2 6 s (x .c0) (x .c1) (x .c2) (let e = l2 in omega arith) h ∙
-        same 6 (λ q. getD w2 (cell 6 q) 0) (λ q. getD w (cell 6 q) 0) (x .c0) (x .c1) (x .c2) h (λ q. set3-above w1 3 6 s (x .a0) (x .a1) (x .a2) (omega arith) (omega arith) q ∙ set3-above w 0 6 s (x .v0) (x .v1) (x .v2) (omega arith) (omega arith) q)
+        same 6 (λ q. getD w2 (cell 6 q) 0) (λ q. getD w (cell 6 q) 0) (x .c0) (x .c1) (x .c2) h
+        (λ q. set3-above w1 3 6 s (x .a0) (x .a1) (x .a2) (omega arith) (omega arith) q ∙ set3-above w 0 6 s (x .v0) (x .v1) (x .v2) (omega arith) (omega arith) q)

@@ -109,8 +109,13 @@ module _ (w : List ℕ) (T : ℕ) (i : InRange T w) where
     unfolding flip flipMoves after netOf
     flip-net =
         ap (λ (u : List ℕ). netOf u T) flip-list
-        ∙ net-tells (m .adj) f2 T (flipMoves h g)
-        (fits f2 f2-length (nxt g) (nxt-in g T gb), (fits f2 f2-length (prv h) (nxt-in (nxt h) T (nxt-in h T hb)), (fits f2 f2-length (prv g) (nxt-in (nxt g) T (nxt-in g T gb)), (fits f2 f2-length (nxt h) (nxt-in h T hb), tt))))
+        ∙ net-tells (m .adj) f2 T (flipMoves h g) (
+          fits f2 f2-length (nxt g) (nxt-in g T gb),
+          (
+            fits f2 f2-length (prv h) (nxt-in (nxt h) T (nxt-in h T hb)),
+            (fits f2 f2-length (prv g) (nxt-in (nxt g) T (nxt-in g T gb)), (fits f2 f2-length (nxt h) (nxt-in h T hb), tt)),
+          ),
+        )
         ∙ after-eq m (netOf f2 T) (flipRaw m h g) (flipMoves h g) flip-raw
 
   module _ (t p : ℕ) (tb : t < T) (more : 16 * (T + 2) ≤ length w) where
@@ -222,7 +227,8 @@ module _ (w : List ℕ) (T : ℕ) (i : InRange T w) where
         net-born e3 (T + 2) (T + 1) (edgeE m h g p) (let e = e3-length in omega arith)
         ∙ ap (λ (x : Net). write x (T + 1) (edgeE m h g p)) (net-born e2 (T + 2) (g / 3) (edgeC m h g p) (let e = e2-length in let s = slot-low g gb in omega arith))
         ∙ ap (λ (x : Net). write (write x (g / 3) (edgeC m h g p)) (T + 1) (edgeE m h g p)) (net-born e1 (T + 2) T (edgeB m h g p) (let e = e1-length in omega arith))
-        ∙ ap (λ (x : Net). write (write (write x T (edgeB m h g p)) (g / 3) (edgeC m h g p)) (T + 1) (edgeE m h g p)) (net-born w (T + 2) (h / 3) (edgeA m h g p) (let s = slot-low h hb in omega arith))
+        ∙ ap (λ (x : Net). write (write (write x T (edgeB m h g p)) (g / 3) (edgeC m h g p)) (T + 1) (edgeE m h g p))
+        (net-born w (T + 2) (h / 3) (edgeA m h g p) (let s = slot-low h hb in omega arith))
 
     edge-list : edgeList w T h g p ≡ tells (m .adj) (edgeMoves m h g) e4
     unfolding edgeList e1 e2 e3 e4
@@ -232,8 +238,10 @@ module _ (w : List ℕ) (T : ℕ) (i : InRange T w) where
     unfolding edgeSplit edgeMoves after netOf edgeRaw grow
     edge-net =
         ap (λ (u : List ℕ). netOf u (T + 2)) edge-list
-        ∙ net-tells (m .adj) e4 (T + 2) (edgeMoves m h g)
-        (fits e4 e4-length (prv h) (nxt-in (nxt h) T (nxt-in h T hb)), (fits e4 e4-length (nxt h) (nxt-in h T hb), (fits e4 e4-length (prv g) (nxt-in (nxt g) T (nxt-in g T gb)), (fits e4 e4-length (nxt g) (nxt-in g T gb), tt))))
+        ∙ net-tells (m .adj) e4 (T + 2) (edgeMoves m h g) (
+          fits e4 e4-length (prv h) (nxt-in (nxt h) T (nxt-in h T hb)),
+          (fits e4 e4-length (nxt h) (nxt-in h T hb), (fits e4 e4-length (prv g) (nxt-in (nxt g) T (nxt-in g T gb)), (fits e4 e4-length (nxt g) (nxt-in g T gb), tt))),
+        )
         ∙ after-eq m (netOf e4 (T + 2)) (edgeRaw m h g p) (edgeMoves m h g) edge-raw
 
 -- ---- the numbers of a tiling are in range

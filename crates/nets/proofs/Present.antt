@@ -85,7 +85,8 @@ module _ {S : ℕ → ℕ → Type 0} {m : Net} (l : Linked S m) (ap' : Apart m)
         go (no n) (no n') = ate x (let z = s .1 in omega arith) (edge-off l ap' h g hb pair cd p x (s .1) n n' ∙ s .2)
 
     pub present-edge : (k : ℕ) → Present m k → Present (edgeSplit m h g k) (k + 1)
-    present-edge k = grown m (edgeSplit m h g k) k (has-edge k) (has-at (edgeSplit m h g k) (N + 2) (3 * (h / 3) + 1) k (edge-tris l ap' h g hb pair cd k) (omega arith) (edge-t l ap' h g hb pair cd k .k1))
+    present-edge k = grown m (edgeSplit m h g k) k (has-edge k)
+        (has-at (edgeSplit m h g k) (N + 2) (3 * (h / 3) + 1) k (edge-tris l ap' h g hb pair cd k) (omega arith) (edge-t l ap' h g hb pair cd k .k1))
 
   module _ (t : ℕ) (tb : t < m .tris) where
     pub has-inside : (p u : ℕ) → Has m u → Has (inside m t p) u

@@ -27,7 +27,9 @@ use Rattle.nets.proofs.Slot.{nxt-in}
 use Rattle.nets.proofs.Tile.{from, tri-from}
 
 -- A tiling that step 3 leaves as it is keeps them, with marked edges or without.
-module _ {P : ℕ → Pt ℤ} {B : Side → Pt ℤ} {rk : ℕ → ℕ} {n : ℕ} {m : Net} (v : Tiling P B n m) (rest : (h g : ℕ) → h < 3 * m .tris → ¬ Wants P rk m h g) (present : Present m n) (count : m .tris + 2 + onRim P B n ≡ 2 * n) (few : m .tris + 5 ≤ 2 * n) (inn : (u : ℕ) → u < n → (i : Side) → NonNeg (orient (B i) (B (next i)) (P u))) where
+module _ {P : ℕ → Pt ℤ} {B : Side → Pt ℤ} {rk : ℕ → ℕ} {n : ℕ} {m : Net} (v : Tiling P B n m)
+    (rest : (h g : ℕ) → h < 3 * m .tris → ¬ Wants P rk m h g) (present : Present m n) (count : m .tris + 2 + onRim P B n ≡ 2 * n)
+    (few : m .tris + 5 ≤ 2 * n) (inn : (u : ℕ) → u < n → (i : Side) → NonNeg (orient (B i) (B (next i)) (P u))) where
   empty : (k : ℕ) → k ≡ 0 → sumTo k (tri P m orient) ≡ pos 0
   unfolding sumTo
   empty k e = rw e
@@ -51,7 +53,9 @@ module _ {P : ℕ → Pt ℤ} {B : Side → Pt ℤ} {rk : ℕ → ℕ} {n : ℕ}
   is-mate : (h g : ℕ) → h < 3 * m .tris → g < 3 * m .tris → m .org g ≡ dst m h → dst m g ≡ m .org h → (a : ℕ) → m .adj h ≡ a → m .adj h ≡ suc g
   is-mate h g b c e f zero q =
       let o = v .linked .side h b q in
-      absurd (two-sides (B (o .0)) (B (next (o .0))) (B (next (next (o .0)))) (P (m .org h)) (P (m .org (nxt h))) (P (m .org (prv h))) (P (m .org h)) (turned (o .0)) (tri-pos h b) (at h b (o .0)) (at (nxt h) (nxt-in h (m .tris) b) (o .0)) (at (prv h) (nxt-in (nxt h) (m .tris) (nxt-in h (m .tris) b)) (o .0)) (P (m .org (prv g)))
+      absurd (two-sides (B (o .0)) (B (next (o .0))) (B (next (next (o .0)))) (P (m .org h)) (P (m .org (nxt h))) (P (m .org (prv h))) (P (m .org h))
+      (turned (o .0)) (tri-pos h b) (at h b (o .0)) (at (nxt h) (nxt-in h (m .tris) b) (o .0))
+      (at (prv h) (nxt-in (nxt h) (m .tris) (nxt-in h (m .tris) b)) (o .0)) (P (m .org (prv g)))
       (pos-by (ap₂ (λ (x y : ℕ). orient (P x) (P y) (P (m .org (prv g)))) (sym e) (sym f)) (tri-pos g c)) (at (prv g) (nxt-in (nxt g) (m .tris) (nxt-in g (m .tris) c)) (o .0)) (o .1) (o .2))
   is-mate h g b c e f (suc x) q =
       q ∙ ap suc (sym (one-edge v inn x g (v .linked .low h x b q) c (e ∙ sym (v .linked .from h x b q)) (f ∙ sym (to (v .linked) h x b q))))

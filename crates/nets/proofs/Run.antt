@@ -67,7 +67,11 @@ module _ (P : ℕ → Pt ℤ) (rk : ℕ → ℕ) where
       (gain? (incircle (P (m .org h)) (P (m .org (nxt h))) (P (m .org (prv h))) (P (m .org (prv g)))) (m .org (prv h)) (m .org (prv g)) (m .org h) (m .org (nxt h)))
       (pos? (orient (P (m .org h)) (P (m .org (prv g))) (P (m .org (prv h))))) (pos? (orient (P (m .org (prv g))) (P (m .org (nxt h))) (P (m .org (prv h)))))
     where
-      go : Dec (m .con h ≡ 0) → Dec (Pos (incircle (P (m .org h)) (P (m .org (nxt h))) (P (m .org (prv h))) (P (m .org (prv g)))) ⊎ ((incircle (P (m .org h)) (P (m .org (nxt h))) (P (m .org (prv h))) (P (m .org (prv g))) ≡ pos 0) × Lower rk (m .org (prv h)) (m .org (prv g)) (m .org h) (m .org (nxt h)))) → Dec (Pos (orient (P (m .org h)) (P (m .org (prv g))) (P (m .org (prv h))))) → Dec (Pos (orient (P (m .org (prv g))) (P (m .org (nxt h))) (P (m .org (prv h))))) → Dec (Wants P rk m h g)
+      go : Dec (m .con h ≡ 0) → Dec (Pos (incircle (P (m .org h)) (P (m .org (nxt h))) (P (m .org (prv h)))
+          (P (m .org (prv g)))) ⊎ ((incircle (P (m .org h)) (P (m .org (nxt h))) (P (m .org (prv h))) (P (m .org (prv g))) ≡ pos 0) ×
+          Lower rk (m .org (prv h)) (m .org (prv g)) (m .org h) (m .org (nxt h)))) →
+          Dec (Pos (orient (P (m .org h)) (P (m .org (prv g))) (P (m .org (prv h))))) →
+          Dec (Pos (orient (P (m .org (prv g))) (P (m .org (nxt h))) (P (m .org (prv h))))) → Dec (Wants P rk m h g)
       go (yes a) (yes b) (yes c) (yes d) = yes (record { pair = e; free = a; gain = b; ccw-t = c; ccw-n = d })
       go (no a) b c d = no (λ w. a (w .free))
       go (yes a) (no b) c d = no (λ w. b (w .gain))
@@ -132,7 +136,8 @@ module _ (P : ℕ → Pt ℤ) (rk : ℕ → ℕ) where
         less : measure P rk n K m (length q) < f
         less = let z : measure P rk n K m (suc (length q)) < suc f = l in omega arith
 
-        step : First m s → ((m1 : Net) (q1 : List ℕ) (z1 : ℕ) → Tiling P B k m1 → m1 .tris * (3 * (n * n)) < K → measure P rk n K m1 (length q1) < f → (m' : Net) × (z' : ℕ) × Legal P rk m1 q1 z1 m' z') → (m' : Net) × (z' : ℕ) × Legal P rk m (s ∷ q) z m' z'
+        step : First m s → ((m1 : Net) (q1 : List ℕ) (z1 : ℕ) → Tiling P B k m1 → m1 .tris * (3 * (n * n)) < K → measure P rk n K m1 (length q1) < f →
+            (m' : Net) × (z' : ℕ) × Legal P rk m1 q1 z1 m' z') → (m' : Net) × (z' : ℕ) × Legal P rk m (s ∷ q) z m' z'
         step (quiet none) ih = let r = ih m q z v room less in (r .0, r .1, stay (λ h g b e. none h g e) (r .2))
         step (found h g e b w fst) ih = pick (decLt h (3 * m .tris))
           where
@@ -142,8 +147,10 @@ module _ (P : ℕ → Pt ℤ) (rk : ℕ → ℕ) where
             pick : Dec (h < 3 * m .tris) → (m' : Net) × (z' : ℕ) × Legal P rk m (s ∷ q) z m' z'
             pick (no n') = let r = ih m q z v room less in (r .0, r .1, stay (λ (x y : ℕ) c i u. apart x n' c i) (r .2))
             pick (yes hb) =
-                let room' : flip m h g .tris * (3 * (n * n)) < K = subst (λ (x : ℕ). x * (3 * (n * n)) < K) (sym (flip-tris (v .linked) (tile-apart v) h g hb (w .pair) (far v h g hb (w .pair)))) room in
-                let r = ih (flip m h g) (reborn h g q) (g / 3) (flip-tile v h g hb (w .pair) (w .ccw-t) (w .ccw-n)) room' (let z = turn-falls q n K h g v rb room hb w in let y : measure P rk n K m (suc (length q)) < suc f = l in omega arith) in
+                let room' : flip m h g .tris * (3 * (n * n)) < K =
+                subst (λ (x : ℕ). x * (3 * (n * n)) < K) (sym (flip-tris (v .linked) (tile-apart v) h g hb (w .pair) (far v h g hb (w .pair)))) room in
+                let r = ih (flip m h g) (reborn h g q) (g / 3) (flip-tile v h g hb (w .pair) (w .ccw-t) (w .ccw-n)) room'
+                (let z = turn-falls q n K h g v rb room hb w in let y : measure P rk n K m (suc (length q)) < suc f = l in omega arith) in
                 (r .0, r .1, Legal.turn h g e hb w fst (r .2))
 
     -- flipping ends

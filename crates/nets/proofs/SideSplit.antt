@@ -76,8 +76,31 @@ module _ {S : ℕ → ℕ → Type 0} {m : Net} (l : Linked S m) (ap' : Apart m)
   all-moved : All (Moved m r D) (sideMoves m h)
   unfolding sideMoves D
   all-moved = (
-    record { old-in = pb; new-in = lowr (3 * t + 2) (omega arith); old-D = inl (nxt-slot2 h); new-D = inl (slot2 t); adj-is = rA .a2; org-is = rA .o2; dst-is = rA .d2 ∙ ap (m .org) (sym (nxt-three h)); con-is = rA .c2; out = λ o e. out (prv h) o pb (nxt-slot2 h) e },
-    (record { old-in = nb; new-in = lowr (3 * N + 1) (omega arith); old-D = inl (nxt-slot h); new-D = inr (let q : N ≤ (3 * N + 1) / 3 = omega arith in q); adj-is = rB .a1; org-is = rB .o1; dst-is = rB .d1; con-is = rB .c1; out = λ o e. out (nxt h) o nb (nxt-slot h) e }, tt),
+    record {
+      old-in = pb;
+      new-in = lowr (3 * t + 2) (omega arith);
+      old-D = inl (nxt-slot2 h);
+      new-D = inl (slot2 t);
+      adj-is = rA .a2;
+      org-is = rA .o2;
+      dst-is = rA .d2 ∙ ap (m .org) (sym (nxt-three h));
+      con-is = rA .c2;
+      out = λ o e. out (prv h) o pb (nxt-slot2 h) e;
+    },
+    (
+      record {
+        old-in = nb;
+        new-in = lowr (3 * N + 1) (omega arith);
+        old-D = inl (nxt-slot h);
+        new-D = inr (let q : N ≤ (3 * N + 1) / 3 = omega arith in q);
+        adj-is = rB .a1;
+        org-is = rB .o1;
+        dst-is = rB .d1;
+        con-is = rB .c1;
+        out = λ o e. out (nxt h) o nb (nxt-slot h) e;
+      },
+      tt,
+    ),
   )
 
   self : (x : ℕ) → eqb x x ≡ true
@@ -109,7 +132,8 @@ module _ {S : ℕ → ℕ → Type 0} {m : Net} (l : Linked S m) (ap' : Apart m)
     where
       go : Edge t x → New S r D (sideMoves m h) x
       go (e0 q) = subst (New S r D (sideMoves m h)) (sym q) (bare (rA .a0) (both (3 * t) (m .org h) p (rA .o0) (rA .d0) ap-side))
-      go (e1 q) = subst (New S r D (sideMoves m h)) (sym q) (paired (3 * N + 2) (lowr (3 * N + 2) (omega arith)) (inr (let z : N ≤ (3 * N + 2) / 3 = omega arith in z)) (rA .a1) (rB .a2) (rB .o2 ∙ sym (rA .d1)) (rB .c2 ∙ sym (rA .c1)))
+      go (e1 q) = subst (New S r D (sideMoves m h)) (sym q) (paired (3 * N + 2) (lowr (3 * N + 2) (omega arith))
+          (inr (let z : N ≤ (3 * N + 2) / 3 = omega arith in z)) (rA .a1) (rB .a2) (rB .o2 ∙ sym (rA .d1)) (rB .c2 ∙ sym (rA .c1)))
       go (e2 q) = moved (mv (prv h) (3 * t + 2)) here (sym q)
   new-in x (inr s) = go (edge N x s)
     where

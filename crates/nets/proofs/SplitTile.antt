@@ -37,7 +37,8 @@ pub data SlotIs (P : ℕ → Pt ℤ) (k : ℕ) (m : Net) (org : ℕ → ℕ) (i 
   new : (u v w : ℕ) → Corner org i u v w → u < k → v < k → w < k → Pos (orient (P u) (P v) (P w)) → SlotIs P k m org i
   old : i < m .tris → Corner org i (m .org (3 * i)) (m .org (3 * i + 1)) (m .org (3 * i + 2)) → SlotIs P k m org i
 
-module _ {P : ℕ → Pt ℤ} {B : Side → Pt ℤ} {k k' : ℕ} {m m' : Net} (v : Tiling P B k m) (more : k ≤ k') (linked : Linked (OnSide P B) m') (slots : (i : ℕ) → i < m' .tris → SlotIs P k' m (m' .org) i) (areas : sumTo (m' .tris) (tri P m' orient) ≡ sumTo (m .tris) (tri P m orient)) where
+module _ {P : ℕ → Pt ℤ} {B : Side → Pt ℤ} {k k' : ℕ} {m m' : Net} (v : Tiling P B k m) (more : k ≤ k') (linked : Linked (OnSide P B) m')
+    (slots : (i : ℕ) → i < m' .tris → SlotIs P k' m (m' .org) i) (areas : sumTo (m' .tris) (tri P m' orient) ≡ sumTo (m .tris) (tri P m orient)) where
   at : (x u : ℕ) → m' .org x ≡ u → u < k' → m' .org x < k'
   at x u e l = rw e l
 
@@ -118,9 +119,11 @@ module _ {P : ℕ → Pt ℤ} {B : Side → Pt ℤ} {k k' : ℕ} {m : Net} (v : 
 
     slots : (i : ℕ) → i < m .tris + 2 → Dec (i ≡ t) → Dec (i < m .tris) → Dec (i ≡ m .tris) → SlotIs P k' m (m' .org) i
     unfolding m'
-    slots i b (yes e) d d' = subst (SlotIs P k' m (m' .org)) (sym e) (new (m .org (3 * t)) (m .org (3 * t + 1)) p (inside-t l ap' t p tb) (cor (3 * t) (omega arith)) (cor (3 * t + 1) (omega arith)) pk abp)
+    slots i b (yes e) d d' = subst (SlotIs P k' m (m' .org)) (sym e)
+        (new (m .org (3 * t)) (m .org (3 * t + 1)) p (inside-t l ap' t p tb) (cor (3 * t) (omega arith)) (cor (3 * t + 1) (omega arith)) pk abp)
     slots i b (no n) (yes e) d' = old e (corners-off i e n)
-    slots i b (no n) (no k) (yes e) = subst (SlotIs P k' m (m' .org)) (sym e) (new (m .org (3 * t + 1)) (m .org (3 * t + 2)) p (inside-b l ap' t p tb) (cor (3 * t + 1) (omega arith)) (cor (3 * t + 2) (omega arith)) pk bcp)
+    slots i b (no n) (no k) (yes e) = subst (SlotIs P k' m (m' .org)) (sym e)
+        (new (m .org (3 * t + 1)) (m .org (3 * t + 2)) p (inside-b l ap' t p tb) (cor (3 * t + 1) (omega arith)) (cor (3 * t + 2) (omega arith)) pk bcp)
     slots i b (no n) (no k) (no j) =
         let e : m .tris + 1 ≡ i = omega arith in
         subst (SlotIs P k' m (m' .org)) e (new (m .org (3 * t + 2)) (m .org (3 * t)) p (inside-c l ap' t p tb) (cor (3 * t + 2) (omega arith)) (cor (3 * t) (omega arith)) pk cap)
@@ -132,15 +135,19 @@ module _ {P : ℕ → Pt ℤ} {B : Side → Pt ℤ} {k k' : ℕ} {m : Net} (v : 
     f' = tri P m' orient
 
     adds : (s x y z w : ℤ) → x +ℤ y +ℤ z ≡ w → s +ℤ (x -ℤ w) +ℤ y +ℤ z ≡ s
-    adds s x y z w e = solve (var 0 ⊕ (var 1 ⊖ var 4) ⊕ var 2 ⊕ var 3) (var 0 ⊕ (var 1 ⊕ var 2 ⊕ var 3) ⊖ var 4) (s ∷ x ∷ y ∷ z ∷ w ∷ []) tt ∙ ap (λ (q : ℤ). s +ℤ q -ℤ w) e ∙ solve (var 0 ⊕ var 1 ⊖ var 1) (var 0) (s ∷ w ∷ []) tt
+    adds s x y z w e = solve (var 0 ⊕ (var 1 ⊖ var 4) ⊕ var 2 ⊕ var 3) (var 0 ⊕ (var 1 ⊕ var 2 ⊕ var 3) ⊖ var 4) (s ∷ x ∷ y ∷ z ∷ w ∷ []) tt
+        ∙ ap (λ (q : ℤ). s +ℤ q -ℤ w) e ∙ solve (var 0 ⊕ var 1 ⊖ var 1) (var 0) (s ∷ w ∷ []) tt
 
     areas : sumTo (m .tris + 2) f' ≡ sumTo (m .tris) f
     unfolding f f' m'
     areas =
         grow2 (m .tris) f' ∙
-        ap (λ (x : ℤ). x +ℤ f' (m .tris) +ℤ f' (m .tris + 1)) (sum-change1 (m .tris) f f' t tb (λ i b n. corner-tri P m' orient i (m .org (3 * i)) (m .org (3 * i + 1)) (m .org (3 * i + 2)) (corners-off i b n))) ∙
+        ap (λ (x : ℤ). x +ℤ f' (m .tris) +ℤ f' (m .tris + 1))
+        (sum-change1 (m .tris) f f' t tb (λ i b n. corner-tri P m' orient i (m .org (3 * i)) (m .org (3 * i + 1)) (m .org (3 * i + 2)) (corners-off i b n))) ∙
         adds (sumTo (m .tris) f) (f' t) (f' (m .tris)) (f' (m .tris + 1)) (f t)
-        (ap₂ (λ (x y : ℤ). x +ℤ y) (ap₂ (λ (x y : ℤ). x +ℤ y) (corner-tri P m' orient t a b p (inside-t l ap' t p tb)) (corner-tri P m' orient (m .tris) b c p (inside-b l ap' t p tb))) (corner-tri P m' orient (m .tris + 1) c a p (inside-c l ap' t p tb)) ∙ orient-sum (P a) (P b) (P c) (P p))
+        (ap₂ (λ (x y : ℤ). x +ℤ y) (ap₂ (λ (x y : ℤ). x +ℤ y) (corner-tri P m' orient t a b p (inside-t l ap' t p tb))
+        (corner-tri P m' orient (m .tris) b c p (inside-b l ap' t p tb))) (corner-tri P m' orient (m .tris + 1) c a p (inside-c l ap' t p tb))
+        ∙ orient-sum (P a) (P b) (P c) (P p))
 
     pub inside-tile : Tiling P B k' (inside m t p)
     unfolding m' f f'
@@ -260,15 +267,18 @@ module _ {P : ℕ → Pt ℤ} {B : Side → Pt ℤ} {k k' : ℕ} {m : Net} (v : 
           subst (SlotIs P k' m (sm .org)) e (new p nb nc (side-b ll lap h p hb lone side-ap side-pb) pk kb kc pbc)
 
       sadds : (s x y w : ℤ) → x +ℤ y ≡ w → s +ℤ (x -ℤ w) +ℤ y ≡ s
-      sadds s x y w e = solve (var 0 ⊕ (var 1 ⊖ var 3) ⊕ var 2) (var 0 ⊕ (var 1 ⊕ var 2) ⊖ var 3) (s ∷ x ∷ y ∷ w ∷ []) tt ∙ ap (λ (q : ℤ). s +ℤ q -ℤ w) e ∙ solve (var 0 ⊕ var 1 ⊖ var 1) (var 0) (s ∷ w ∷ []) tt
+      sadds s x y w e = solve (var 0 ⊕ (var 1 ⊖ var 3) ⊕ var 2) (var 0 ⊕ (var 1 ⊕ var 2) ⊖ var 3) (s ∷ x ∷ y ∷ w ∷ []) tt
+          ∙ ap (λ (q : ℤ). s +ℤ q -ℤ w) e ∙ solve (var 0 ⊕ var 1 ⊖ var 1) (var 0) (s ∷ w ∷ []) tt
 
       sareas : sumTo (m .tris + 1) (tri P sm orient) ≡ sumTo (m .tris) (tri P m orient)
       unfolding sm
       sareas =
           grow1 (m .tris) (tri P sm orient) ∙
-          ap (λ (x : ℤ). x +ℤ tri P sm orient (m .tris)) (sum-change1 (m .tris) (tri P m orient) (tri P sm orient) (h / 3) tb (λ i b n. corner-tri P sm orient i (m .org (3 * i)) (m .org (3 * i + 1)) (m .org (3 * i + 2)) (soff i b n))) ∙
+          ap (λ (x : ℤ). x +ℤ tri P sm orient (m .tris)) (sum-change1 (m .tris) (tri P m orient) (tri P sm orient) (h / 3) tb
+          (λ i b n. corner-tri P sm orient i (m .org (3 * i)) (m .org (3 * i + 1)) (m .org (3 * i + 2)) (soff i b n))) ∙
           sadds (sumTo (m .tris) (tri P m orient)) (tri P sm orient (h / 3)) (tri P sm orient (m .tris)) (tri P m orient (h / 3))
-          (ap₂ (λ (x y : ℤ). x +ℤ y) (corner-tri P sm orient (h / 3) na p nc (side-t ll lap h p hb lone side-ap side-pb)) (corner-tri P sm orient (m .tris) p nb nc (side-b ll lap h p hb lone side-ap side-pb)) ∙ halves (P na) (P nb) (P nc) (P p) on ∙ sym old-t)
+          (ap₂ (λ (x y : ℤ). x +ℤ y) (corner-tri P sm orient (h / 3) na p nc (side-t ll lap h p hb lone side-ap side-pb))
+          (corner-tri P sm orient (m .tris) p nb nc (side-b ll lap h p hb lone side-ap side-pb)) ∙ halves (P na) (P nb) (P nc) (P p) on ∙ sym old-t)
 
       pub side-tile : Tiling P B k' (sideSplit m h p)
       unfolding sm
@@ -304,10 +314,12 @@ module _ {P : ℕ → Pt ℤ} {B : Side → Pt ℤ} {k k' : ℕ} {m : Net} (v : 
       bad = pos-by (sym old-n) (v .ccw (g / 3) nT)
 
       pub bpd : Pos (orient (P nb) (P p) (P nd))
-      bpd = pos-cancel (pos-nn abc) (pos-by (far-b (P na) (P nb) (P nc) (P nd) (P p) ∙ drop-zero (orient (P p) (P nb) (P nc) *ℤ orient (P nb) (P na) (P nd)) (orient (P nb) (P nc) (P nd)) (orient (P na) (P nb) (P p)) on) (pos*pos pbc bad))
+      bpd = pos-cancel (pos-nn abc) (pos-by (far-b (P na) (P nb) (P nc) (P nd) (P p)
+          ∙ drop-zero (orient (P p) (P nb) (P nc) *ℤ orient (P nb) (P na) (P nd)) (orient (P nb) (P nc) (P nd)) (orient (P na) (P nb) (P p)) on) (pos*pos pbc bad))
 
       pub pad : Pos (orient (P p) (P na) (P nd))
-      pad = pos-cancel (pos-nn abc) (pos-by (far-a (P na) (P nb) (P nc) (P nd) (P p) ∙ drop-zero (orient (P na) (P p) (P nc) *ℤ orient (P nb) (P na) (P nd)) (negℤ (orient (P na) (P nc) (P nd))) (orient (P na) (P nb) (P p)) on) (pos*pos apc bad))
+      pad = pos-cancel (pos-nn abc) (pos-by (far-a (P na) (P nb) (P nc) (P nd) (P p)
+          ∙ drop-zero (orient (P na) (P p) (P nc) *ℤ orient (P nb) (P na) (P nd)) (negℤ (orient (P na) (P nc) (P nd))) (orient (P na) (P nb) (P p)) on) (pos*pos apc bad))
 
       em : Net
       em = edgeSplit m h g p
@@ -331,16 +343,23 @@ module _ {P : ℕ → Pt ℤ} {B : Side → Pt ℤ} {k k' : ℕ} {m : Net} (v : 
           subst (SlotIs P k' m (em .org)) e (new p na nd (edge-e ll lap h g hb pair cd p) pk ka kd pad)
 
       eadds : (s x y z w u q : ℤ) → x +ℤ z ≡ u → y +ℤ w ≡ q → s +ℤ (x -ℤ u) +ℤ (y -ℤ q) +ℤ z +ℤ w ≡ s
-      eadds s x y z w u q e i = solve (var 0 ⊕ (var 1 ⊖ var 5) ⊕ (var 2 ⊖ var 6) ⊕ var 3 ⊕ var 4) (var 0 ⊕ (var 1 ⊕ var 3) ⊖ var 5 ⊕ (var 2 ⊕ var 4) ⊖ var 6) (s ∷ x ∷ y ∷ z ∷ w ∷ u ∷ q ∷ []) tt ∙ ap₂ (λ (o o' : ℤ). s +ℤ o -ℤ u +ℤ o' -ℤ q) e i ∙ solve (var 0 ⊕ var 1 ⊖ var 1 ⊕ var 2 ⊖ var 2) (var 0) (s ∷ u ∷ q ∷ []) tt
+      eadds s x y z w u q e i = solve (var 0 ⊕ (var 1 ⊖ var 5) ⊕ (var 2 ⊖ var 6) ⊕ var 3 ⊕ var 4)
+          (var 0 ⊕ (var 1 ⊕ var 3) ⊖ var 5 ⊕ (var 2 ⊕ var 4) ⊖ var 6) (s ∷ x ∷ y ∷ z ∷ w ∷ u ∷ q ∷ []) tt
+          ∙ ap₂ (λ (o o' : ℤ). s +ℤ o -ℤ u +ℤ o' -ℤ q) e i ∙ solve (var 0 ⊕ var 1 ⊖ var 1 ⊕ var 2 ⊖ var 2) (var 0) (s ∷ u ∷ q ∷ []) tt
 
       eareas : sumTo (m .tris + 2) (tri P em orient) ≡ sumTo (m .tris) (tri P m orient)
       unfolding em
       eareas =
           grow2 (m .tris) (tri P em orient) ∙
-          ap (λ (x : ℤ). x +ℤ tri P em orient (m .tris) +ℤ tri P em orient (m .tris + 1)) (sum-change2 (m .tris) (tri P m orient) (tri P em orient) (h / 3) (g / 3) tb nT tn (λ i b n n'. corner-tri P em orient i (m .org (3 * i)) (m .org (3 * i + 1)) (m .org (3 * i + 2)) (eoff i b n n'))) ∙
-          eadds (sumTo (m .tris) (tri P m orient)) (tri P em orient (h / 3)) (tri P em orient (g / 3)) (tri P em orient (m .tris)) (tri P em orient (m .tris + 1)) (tri P m orient (h / 3)) (tri P m orient (g / 3))
-          (ap₂ (λ (x y : ℤ). x +ℤ y) (corner-tri P em orient (h / 3) na p nc (edge-t ll lap h g hb pair cd p)) (corner-tri P em orient (m .tris) p nb nc (edge-b ll lap h g hb pair cd p)) ∙ halves (P na) (P nb) (P nc) (P p) on ∙ sym old-t)
-          (ap₂ (λ (x y : ℤ). x +ℤ y) (corner-tri P em orient (g / 3) nb p nd (edge-n ll lap h g hb pair cd p)) (corner-tri P em orient (m .tris + 1) p na nd (edge-e ll lap h g hb pair cd p)) ∙ halves (P nb) (P na) (P nd) (P p) ba ∙ sym old-n)
+          ap (λ (x : ℤ). x +ℤ tri P em orient (m .tris) +ℤ tri P em orient (m .tris + 1))
+          (sum-change2 (m .tris) (tri P m orient) (tri P em orient) (h / 3) (g / 3) tb nT tn
+          (λ i b n n'. corner-tri P em orient i (m .org (3 * i)) (m .org (3 * i + 1)) (m .org (3 * i + 2)) (eoff i b n n'))) ∙
+          eadds (sumTo (m .tris) (tri P m orient)) (tri P em orient (h / 3)) (tri P em orient (g / 3)) (tri P em orient (m .tris))
+          (tri P em orient (m .tris + 1)) (tri P m orient (h / 3)) (tri P m orient (g / 3))
+          (ap₂ (λ (x y : ℤ). x +ℤ y) (corner-tri P em orient (h / 3) na p nc (edge-t ll lap h g hb pair cd p))
+          (corner-tri P em orient (m .tris) p nb nc (edge-b ll lap h g hb pair cd p)) ∙ halves (P na) (P nb) (P nc) (P p) on ∙ sym old-t)
+          (ap₂ (λ (x y : ℤ). x +ℤ y) (corner-tri P em orient (g / 3) nb p nd (edge-n ll lap h g hb pair cd p))
+          (corner-tri P em orient (m .tris + 1) p na nd (edge-e ll lap h g hb pair cd p)) ∙ halves (P nb) (P na) (P nd) (P p) ba ∙ sym old-n)
         where
           ba : orient (P nb) (P na) (P p) ≡ pos 0
           ba = orient-swap (P nb) (P na) (P p) ∙ ap negℤ on

@@ -98,7 +98,8 @@ module _ {S : ℕ → ℕ → Type 0} {m : Net} (l : Linked S m) where
       same (suc x) = refl
   links-off r D (v ∷ L) f a q b e = by-bool (eqb (m .adj (v .old)) (suc q)) yes-case (no-case (links-off r D L f (a .1) q b e))
     where
-      yes-case : eqb (m .adj (v .old)) (suc q) ≡ true → cond (eqb (m .adj (v .old)) (suc q)) (suc (v .new)) (links (m .adj) L f q) ≡ ren+ (λ (g : ℕ). cond (eqb (v .old) g) (v .new) (ren L g)) (m .adj q)
+      yes-case : eqb (m .adj (v .old)) (suc q) ≡ true → cond (eqb (m .adj (v .old)) (suc q)) (suc (v .new))
+          (links (m .adj) L f q) ≡ ren+ (λ (g : ℕ). cond (eqb (v .old) g) (v .new) (ren L g)) (m .adj q)
       yes-case t =
           let k : m .adj q ≡ suc (v .old) = l .back (v .old) q (a .0 .old-in) (eqb→eq (m .adj (v .old)) (suc q) (subst T (sym t) tt)) in
           rw (t, k, eqb-yes (v .old) (v .old) refl)
@@ -107,7 +108,8 @@ module _ {S : ℕ → ℕ → Type 0} {m : Net} (l : Linked S m) where
       skip zero n = refl
       skip (suc x) n = ap (λ (b : Bool). suc (cond b (v .new) (ren L x))) (sym (eqb-no (v .old) x (λ e. n (ap suc (sym e)))))
 
-      no-case : links (m .adj) L f q ≡ ren+ (ren L) (m .adj q) → eqb (m .adj (v .old)) (suc q) ≡ false → cond (eqb (m .adj (v .old)) (suc q)) (suc (v .new)) (links (m .adj) L f q) ≡ ren+ (λ (g : ℕ). cond (eqb (v .old) g) (v .new) (ren L g)) (m .adj q)
+      no-case : links (m .adj) L f q ≡ ren+ (ren L) (m .adj q) → eqb (m .adj (v .old)) (suc q) ≡ false →
+          cond (eqb (m .adj (v .old)) (suc q)) (suc (v .new)) (links (m .adj) L f q) ≡ ren+ (λ (g : ℕ). cond (eqb (v .old) g) (v .new) (ren L g)) (m .adj q)
       no-case ih t =
           ap (λ (b : Bool). cond b (suc (v .new)) (links (m .adj) L f q)) t ∙ ih ∙
           skip (m .adj q) (λ k. subst T (sym (eqb-yes (m .adj (v .old)) (suc q) (l .back q (v .old) b k)) ∙ t) tt)
@@ -195,7 +197,8 @@ module _ {S : ℕ → ℕ → Type 0} {m : Net} (l : Linked S m) where
         part : (g : ℕ) → m .adj x ≡ suc g → ren L g ≡ y → Kept g → m .adj x ≡ suc y
         part g i j (inl n') = i ∙ ap suc (sym (ren-off m r D L (s .all-moved) g n') ∙ j)
         part g i j (inr p) =
-            absurd (k (subst (λ (z : ℕ). D (z / 3)) (sym (all-at (λ v. ren L (v .old) ≡ v .new) L (p .0) (s .ren-at) (p .1)) ∙ ap (ren L) (p .2) ∙ j) (all-at (Moved m r D) L (p .0) (s .all-moved) (p .1) .new-D)))
+            absurd (k (subst (λ (z : ℕ). D (z / 3)) (sym (all-at (λ v. ren L (v .old) ≡ v .new) L (p .0) (s .ren-at) (p .1)) ∙ ap (ren L) (p .2) ∙ j)
+            (all-at (Moved m r D) L (p .0) (s .all-moved) (p .1) .new-D)))
 
         go : (a : ℕ) → m .adj x ≡ a → m .adj x ≡ suc y
         go zero i = no-suc y (sym (q ∙ ap (ren+ (ren L)) i) ∙ e)

@@ -45,7 +45,10 @@ module _ {P : ℕ → Pt ℤ} {rk : ℕ → ℕ} {S : ℕ → ℕ → Type 0} {m
   wants-off x y b n k w = record {
     pair = sewn-back l s x y b n k (w .pair);
     free = sym (s .off-con x n) ∙ w .free;
-    gain = subst (λ (c : ℕ). Gains P rk (m .org x) (m .org (nxt x)) (m .org (prv x)) c) (oy) (subst (λ (c : ℕ). Gains P rk (m .org x) (m .org (nxt x)) c (r .org (prv y))) o2 (subst (λ (c : ℕ). Gains P rk (m .org x) c (r .org (prv x)) (r .org (prv y))) o1 (subst (λ (c : ℕ). Gains P rk c (r .org (nxt x)) (r .org (prv x)) (r .org (prv y))) o0 (w .gain))));
+    gain = subst (λ (c : ℕ). Gains P rk (m .org x) (m .org (nxt x)) (m .org (prv x)) c) (oy)
+        (subst (λ (c : ℕ). Gains P rk (m .org x) (m .org (nxt x)) c (r .org (prv y))) o2
+        (subst (λ (c : ℕ). Gains P rk (m .org x) c (r .org (prv x)) (r .org (prv y))) o1
+        (subst (λ (c : ℕ). Gains P rk c (r .org (nxt x)) (r .org (prv x)) (r .org (prv y))) o0 (w .gain))));
     ccw-t = pos-by (ap₃ (m .org x) (r .org x) (m .org (prv y)) (r .org (prv y)) (m .org (prv x)) (r .org (prv x)) (sym o0) (sym oy) (sym o2)) (w .ccw-t);
     ccw-n = pos-by (ap₃ (m .org (prv y)) (r .org (prv y)) (m .org (nxt x)) (r .org (nxt x)) (m .org (prv x)) (r .org (prv x)) (sym oy) (sym o1) (sym o2)) (w .ccw-n);
   }
@@ -96,7 +99,8 @@ pub wants-sym : {P : ℕ → Pt ℤ} {rk : ℕ → ℕ} {S : ℕ → ℕ → Typ
 wants-sym {P} {rk} {S} {m} l h g b w = record {
   pair = l .back h g b (w .pair);
   free = l .mark h g b (w .pair) ∙ w .free;
-  gain = subst (λ (x : ℕ). Gains P rk x (m .org (nxt g)) (m .org (prv g)) (m .org (prv h))) (sym from) (subst (λ (x : ℕ). Gains P rk (m .org (nxt h)) x (m .org (prv g)) (m .org (prv h))) (sym onto) (turn (w .gain)));
+  gain = subst (λ (x : ℕ). Gains P rk x (m .org (nxt g)) (m .org (prv g)) (m .org (prv h))) (sym from)
+      (subst (λ (x : ℕ). Gains P rk (m .org (nxt h)) x (m .org (prv g)) (m .org (prv h))) (sym onto) (turn (w .gain)));
   ccw-t = pos-by (ap (λ (x : ℕ). orient (P x) (P (m .org (prv h))) (P (m .org (prv g)))) from ∙ sym (orient-cyc (P (m .org (prv g))) (P (m .org (nxt h))) (P (m .org (prv h))))) (w .ccw-n);
   ccw-n = pos-by (ap (λ (x : ℕ). orient (P (m .org (prv h))) (P x) (P (m .org (prv g)))) onto ∙ orient-cyc (P (m .org (prv h))) (P (m .org h)) (P (m .org (prv g)))) (w .ccw-t);
 }
@@ -109,7 +113,11 @@ wants-sym {P} {rk} {S} {m} l h g b w = record {
 
     turn : Gains P rk (m .org h) (m .org (nxt h)) (m .org (prv h)) (m .org (prv g)) → Gains P rk (m .org (nxt h)) (m .org h) (m .org (prv g)) (m .org (prv h))
     turn (inl p) = inl (pos-by (incircle-flip (P (m .org (nxt h))) (P (m .org h)) (P (m .org (prv g))) (P (m .org (prv h)))) p)
-    turn (inr p) = inr (incircle-flip (P (m .org (nxt h))) (P (m .org h)) (P (m .org (prv g))) (P (m .org (prv h))) ∙ p .0, lower-sym rk (m .org (prv h)) (m .org (prv g)) (m .org h) (m .org (nxt h)) (p .1))
+    turn (inr p) = inr (
+      incircle-flip (P (m .org (nxt h))) (P (m .org h)) (P (m .org (prv g))) (P (m .org (prv h)))
+          ∙ p .0,
+      lower-sym rk (m .org (prv h)) (m .org (prv g)) (m .org h) (m .org (nxt h)) (p .1),
+    )
 
 -- ---- the loop
 
@@ -168,10 +176,12 @@ module _ {P : ℕ → Pt ℤ} {B : Side → Pt ℤ} {k : ℕ} {rk : ℕ → ℕ}
   pub legal-rule7 : {m m' : Net} {q : List ℕ} {z z' : ℕ} → Tiling P B k m → Watched P rk m q → Legal P rk m q z m' z' → (h g : ℕ) → h < 3 * m' .tris → ¬ Wants P rk m' h g
   legal-rule7 v old done h g b w = elim (old h g b w) [ inl i ↦ not-nil (h / 3) i | inr i ↦ not-nil (g / 3) i ]
   legal-rule7 v old (stay n r) h g b w = legal-rule7 v (stay-watched v n old) r h g b w
-  legal-rule7 {m} v old (turn {q = q} x y e c u f r) h g b w = legal-rule7 (flip-tile v x y c (u .pair) (u .ccw-t) (u .ccw-n)) (turn-watched x y v c u (subst (λ (z : ℕ). Watched P rk m (z ∷ q)) (sym e) old)) r h g b w
+  legal-rule7 {m} v old (turn {q = q} x y e c u f r) h g b w =
+      legal-rule7 (flip-tile v x y c (u .pair) (u .ccw-t) (u .ccw-n)) (turn-watched x y v c u (subst (λ (z : ℕ). Watched P rk m (z ∷ q)) (sym e) old)) r h g b w
 
   -- the measure of a turn
-  pub turn-falls : {m : Net} (q : List ℕ) (n K : ℕ) (h g : ℕ) → Tiling P B k m → ((u : ℕ) → u < k → rk u < n) → m .tris * (3 * (n * n)) < K → (b : h < 3 * m .tris) → Wants P rk m h g → measure P rk n K (flip m h g) (length (reborn h g q)) < measure P rk n K m (length (h / 3 ∷ q))
+  pub turn-falls : {m : Net} (q : List ℕ) (n K : ℕ) (h g : ℕ) → Tiling P B k m → ((u : ℕ) → u < k → rk u < n) → m .tris * (3 * (n * n)) < K →
+      (b : h < 3 * m .tris) → Wants P rk m h g → measure P rk n K (flip m h g) (length (reborn h g q)) < measure P rk n K m (length (h / 3 ∷ q))
   turn-falls {m} q n K h g v rb room b w =
       let z = flip-falls v rk n K rb room h g b w (suc (length q)) in let y = leave-length (g / 3) q in omega arith
 
@@ -181,7 +191,8 @@ suc-inj : (a b : ℕ) → suc a ≡ suc b → a ≡ b
 suc-inj a b e = omega arith
 
 module _ {P : ℕ → Pt ℤ} {rk : ℕ → ℕ} where
-  same-first : {m : Net} (h g x y : ℕ) → h / 3 ≡ x / 3 → Wants P rk m h g → Wants P rk m x y → ((i j : ℕ) → i < h → i / 3 ≡ h / 3 → ¬ Wants P rk m i j) → ((i j : ℕ) → i < x → i / 3 ≡ x / 3 → ¬ Wants P rk m i j) → h ≡ x
+  same-first : {m : Net} (h g x y : ℕ) → h / 3 ≡ x / 3 → Wants P rk m h g → Wants P rk m x y →
+      ((i j : ℕ) → i < h → i / 3 ≡ h / 3 → ¬ Wants P rk m i j) → ((i j : ℕ) → i < x → i / 3 ≡ x / 3 → ¬ Wants P rk m i j) → h ≡ x
   same-first h g x y e w u f f' = go (decLt h x) (decLt x h)
     where
       go : Dec (h < x) → Dec (x < h) → h ≡ x

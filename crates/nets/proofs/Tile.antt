@@ -61,7 +61,8 @@ sum-change1 k f f' t l e =
 pub sum-change2 : (k : ℕ) (f f' : ℕ → ℤ) (t n : ℕ) → t < k → n < k → ¬ (n ≡ t) → ((i : ℕ) → i < k → ¬ (i ≡ t) → ¬ (i ≡ n) → f' i ≡ f i) → sumTo k f' ≡ sumTo k f +ℤ (f' t -ℤ f t) +ℤ (f' n -ℤ f n)
 sum-change2 k f f' t n lt ln tn e =
     sum-change1 k f1 f' n ln (λ i b q. go1 i b q (ℕ-discrete t i)) ∙
-    ap₂ (λ (x y : ℤ). x +ℤ (f' n -ℤ y)) (sum-change1 k f f1 t lt (λ i b q. ap (λ (z : Bool). cond z (f' t) (f i)) (eqb-no t i (λ r. q (sym r)))) ∙ ap (λ (z : Bool). sumTo k f +ℤ (cond z (f' t) (f t) -ℤ f t)) (eqb-yes t t refl)) (ap (λ (z : Bool). cond z (f' t) (f n)) (eqb-no t n (λ r. tn (sym r))))
+    ap₂ (λ (x y : ℤ). x +ℤ (f' n -ℤ y)) (sum-change1 k f f1 t lt (λ i b q. ap (λ (z : Bool). cond z (f' t) (f i)) (eqb-no t i (λ r. q (sym r))))
+    ∙ ap (λ (z : Bool). sumTo k f +ℤ (cond z (f' t) (f t) -ℤ f t)) (eqb-yes t t refl)) (ap (λ (z : Bool). cond z (f' t) (f n)) (eqb-no t n (λ r. tn (sym r))))
   where
     f1 : ℕ → ℤ
     f1 i = cond (eqb t i) (f' t) (f i)

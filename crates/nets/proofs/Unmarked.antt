@@ -52,7 +52,8 @@ module _ (m : Net) (u : Unmarked m) where
   pub edge-unmarked : (h g p : ℕ) → h < 3 * m .tris → g < 3 * m .tris → Unmarked (edgeSplit m h g p)
   unfolding edgeSplit after edgeRaw write grow
   edge-unmarked h g p hb gb x b =
-      put-zero (put (put (put (m .con) (h / 3) (m .con h) 0 (m .con (prv h))) (m .tris) (m .con h) (m .con (nxt h)) 0) (g / 3) (m .con h) 0 (m .con (prv g))) (m .tris + 1) (m .con h) (m .con (nxt g)) 0 x (u h hb) (n1 g gb) refl
+      put-zero (put (put (put (m .con) (h / 3) (m .con h) 0 (m .con (prv h))) (m .tris) (m .con h) (m .con (nxt h)) 0) (g / 3) (m .con h) 0
+      (m .con (prv g))) (m .tris + 1) (m .con h) (m .con (nxt g)) 0 x (u h hb) (n1 g gb) refl
       (λ i. put-zero (put (put (m .con) (h / 3) (m .con h) 0 (m .con (prv h))) (m .tris) (m .con h) (m .con (nxt h)) 0) (g / 3) (m .con h) 0 (m .con (prv g)) x (u h hb) refl (n2 g gb)
       (λ j. put-zero (put (m .con) (h / 3) (m .con h) 0 (m .con (prv h))) (m .tris) (m .con h) (m .con (nxt h)) 0 x (u h hb) (n1 h hb) refl
       (λ k. put-zero (m .con) (h / 3) (m .con h) 0 (m .con (prv h)) x (u h hb) refl (n2 h hb) (λ l. u x (omega arith)))))

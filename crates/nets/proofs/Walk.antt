@@ -109,7 +109,8 @@ module _ (P : ℕ → Pt ℤ) (m : Net) (p : Pt ℤ) where
 
   module _ (low : (h g : ℕ) → h < 3 * m .tris → m .adj h ≡ suc g → g < 3 * m .tris) where
     over-low : (h s : ℕ) → h < 3 * m .tris → over P m p h ≡ suc s → s < m .tris
-    over-low h s b e = by-test (beyond P m p h) (λ y. go (m .adj h) refl (sym (ap (λ (x : Bool). cond x (slotOf (m .adj h)) 0) y) ∙ e)) (λ y. no-suc s (sym (ap (λ (x : Bool). cond x (slotOf (m .adj h)) 0) y) ∙ e))
+    over-low h s b e = by-test (beyond P m p h) (λ y. go (m .adj h) refl (sym (ap (λ (x : Bool). cond x (slotOf (m .adj h)) 0) y) ∙ e))
+        (λ y. no-suc s (sym (ap (λ (x : Bool). cond x (slotOf (m .adj h)) 0) y) ∙ e))
       where
         go : (a : ℕ) → m .adj h ≡ a → slotOf (m .adj h) ≡ suc s → s < m .tris
         go zero i q = no-suc s (sym (ap slotOf i) ∙ q)
@@ -136,7 +137,8 @@ module _ (P : ℕ → Pt ℤ) (m : Net) (p : Pt ℤ) where
     walk-holds (suc cap) zero t l e = no-suc t e
     walk-holds (suc cap) (suc s) t l e =
         by-test (holds P m p s)
-        (λ h. let q : s ≡ t = suc-inj s t (sym (ap (λ (b : Bool). cond b (suc s) (walk P m p cap (step P m p s))) h) ∙ e) in (subst (λ (u : ℕ). u < m .tris) q (l s refl), subst (λ (u : ℕ). holds P m p u ≡ true) q h))
+        (λ h. let q : s ≡ t = suc-inj s t (sym (ap (λ (b : Bool). cond b (suc s) (walk P m p cap (step P m p s))) h) ∙ e) in
+        (subst (λ (u : ℕ). u < m .tris) q (l s refl), subst (λ (u : ℕ). holds P m p u ≡ true) q h))
         (λ h. walk-holds cap (step P m p s) t (λ u. step-low s u (l s refl)) (sym (ap (λ (b : Bool). cond b (suc s) (walk P m p cap (step P m p s))) h) ∙ e))
 
 -- ---- location

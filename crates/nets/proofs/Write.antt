@@ -78,7 +78,8 @@ reads-by r m s x p q u y = record {
 }
 
 pub reads-there : (m : Net) (s s' : ℕ) (x y : Rec) → ¬ (s' ≡ s) → Reads m s' y → Reads (write m s x) s' y
-reads-there m s s' x y n = reads-by (write m s x) m s' y (write-off m s x (3 * s') (λ e. n (sym (slot0 s') ∙ e))) (write-off m s x (3 * s' + 1) (λ e. n (sym (slot1 s') ∙ e))) (write-off m s x (3 * s' + 2) (λ e. n (sym (slot2 s') ∙ e)))
+reads-there m s s' x y n = reads-by (write m s x) m s' y (write-off m s x (3 * s') (λ e. n (sym (slot0 s') ∙ e)))
+    (write-off m s x (3 * s' + 1) (λ e. n (sym (slot1 s') ∙ e))) (write-off m s x (3 * s' + 2) (λ e. n (sym (slot2 s') ∙ e)))
 
 pub reads-grow : (m : Net) (k s : ℕ) (x : Rec) → Reads m s x → Reads (grow m k) s x
 reads-grow m k s x = reads-by (grow m k) m s x (off-grow m k (3 * s)) (off-grow m k (3 * s + 1)) (off-grow m k (3 * s + 2))

@@ -16,7 +16,17 @@ abbrev pub flipA : Net → ℕ → ℕ → Rec
 flipA m h g = record { v0 = m .org h; v1 = m .org (prv g); v2 = m .org (prv h); a0 = m .adj (nxt g); a1 = suc (3 * (g / 3) + 2); a2 = m .adj (prv h); c0 = m .con (nxt g); c1 = 0; c2 = m .con (prv h) }
 
 abbrev pub flipB : Net → ℕ → ℕ → Rec
-flipB m h g = record { v0 = m .org (prv g); v1 = m .org (nxt h); v2 = m .org (prv h); a0 = m .adj (prv g); a1 = m .adj (nxt h); a2 = suc (3 * (h / 3) + 1); c0 = m .con (prv g); c1 = m .con (nxt h); c2 = 0 }
+flipB m h g = record {
+  v0 = m .org (prv g);
+  v1 = m .org (nxt h);
+  v2 = m .org (prv h);
+  a0 = m .adj (prv g);
+  a1 = m .adj (nxt h);
+  a2 = suc (3 * (h / 3) + 1);
+  c0 = m .con (prv g);
+  c1 = m .con (nxt h);
+  c2 = 0;
+}
 
 -- the two new triangles
 unfoldable pub flipRaw : Net → ℕ → ℕ → Net
@@ -37,7 +47,17 @@ abbrev pub inA : Net → ℕ → ℕ → Rec
 inA m t p = record { v0 = m .org (3 * t); v1 = m .org (3 * t + 1); v2 = p; a0 = m .adj (3 * t); a1 = suc (3 * m .tris + 2); a2 = suc (3 * (m .tris + 1) + 1); c0 = m .con (3 * t); c1 = 0; c2 = 0 }
 
 abbrev pub inB : Net → ℕ → ℕ → Rec
-inB m t p = record { v0 = m .org (3 * t + 1); v1 = m .org (3 * t + 2); v2 = p; a0 = m .adj (3 * t + 1); a1 = suc (3 * (m .tris + 1) + 2); a2 = suc (3 * t + 1); c0 = m .con (3 * t + 1); c1 = 0; c2 = 0 }
+inB m t p = record {
+  v0 = m .org (3 * t + 1);
+  v1 = m .org (3 * t + 2);
+  v2 = p;
+  a0 = m .adj (3 * t + 1);
+  a1 = suc (3 * (m .tris + 1) + 2);
+  a2 = suc (3 * t + 1);
+  c0 = m .con (3 * t + 1);
+  c1 = 0;
+  c2 = 0;
+}
 
 abbrev pub inC : Net → ℕ → ℕ → Rec
 inC m t p = record { v0 = m .org (3 * t + 2); v1 = m .org (3 * t); v2 = p; a0 = m .adj (3 * t + 2); a1 = suc (3 * t + 2); a2 = suc (3 * m .tris + 1); c0 = m .con (3 * t + 2); c1 = 0; c2 = 0 }

@@ -38,7 +38,8 @@ module _ (n : ℕ) (xs w : List ℕ) (ls : Listed n xs w) (room : Room n xs w) (
     marks g l (yes q) =
         ap (λ (x : ℕ). markOf n (set w (7 * n + h) 1) x) q ∙ getD-set-same w (7 * n + h) 1 0 spot-low ∙ sym (ap (λ (b : Bool). cond b 1 (markOf n w g)) (ap f q ∙ passes))
     marks g l (no q) =
-        getD-set-other w (7 * n + h) (7 * n + g) 1 0 (λ z. q (omega arith)) ∙ sym (ap (λ (b : Bool). cond b 1 (markOf n w g)) (by-test (f g) (λ t. absurd (q (unique-edge xs (ls .whole) once u v h g low l passes t))) (λ t. t)))
+        getD-set-other w (7 * n + h) (7 * n + g) 1 0 (λ z. q (omega arith))
+        ∙ sym (ap (λ (b : Bool). cond b 1 (markOf n w g)) (by-test (f g) (λ t. absurd (q (unique-edge xs (ls .whole) once u v h g low l passes t))) (λ t. t)))
 
     pub paints : Painted n xs f w (set w (7 * n + h) 1)
     paints = record {

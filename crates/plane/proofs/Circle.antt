@@ -80,7 +80,8 @@ incircle-at =
     (λ a b c d. incircleE a b c d ⊕ liftE (minusE c a) ⊗ orientE b a d ⊕ liftE (minusE d a) ⊗ orientE a b c) tt
 
 -- the circle determinant by the three triangles at d: d in the triangle is in the circle
-pub incircle-bary : (a b c d : Pt ℤ) → orient a b c *ℤ incircle a b c d ≡ orient b c d *ℤ orient c a d *ℤ lift (minus a b) +ℤ orient c a d *ℤ orient a b d *ℤ lift (minus b c) +ℤ orient a b d *ℤ orient b c d *ℤ lift (minus c a)
+pub incircle-bary : (a b c d : Pt ℤ) → orient a b c *ℤ incircle a b c d ≡ orient b c d *ℤ orient c a d *ℤ lift
+    (minus a b) +ℤ orient c a d *ℤ orient a b d *ℤ lift (minus b c) +ℤ orient a b d *ℤ orient b c d *ℤ lift (minus c a)
 unfolding orient incircle
 incircle-bary =
     by4 (λ a b c d. orientE a b c ⊗ incircleE a b c d)

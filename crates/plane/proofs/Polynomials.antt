@@ -96,8 +96,10 @@ by-q2 f g t q a b = solve (at2 f) (at2 g) (row q (a ∷ b ∷ [])) t
 pub by-q3 : (f g : Place Expr → PtE → PtE → PtE → Expr) → T (same (at3 f) (at3 g)) → (q : Place ℤ) (a b c : Pt ℤ) → eval (at3 f) (row q (a ∷ b ∷ c ∷ [])) ≡ eval (at3 g) (row q (a ∷ b ∷ c ∷ []))
 by-q3 f g t q a b c = solve (at3 f) (at3 g) (row q (a ∷ b ∷ c ∷ [])) t
 
-pub by-q4 : (f g : Place Expr → PtE → PtE → PtE → PtE → Expr) → T (same (at4 f) (at4 g)) → (q : Place ℤ) (a b c d : Pt ℤ) → eval (at4 f) (row q (a ∷ b ∷ c ∷ d ∷ [])) ≡ eval (at4 g) (row q (a ∷ b ∷ c ∷ d ∷ []))
+pub by-q4 : (f g : Place Expr → PtE → PtE → PtE → PtE → Expr) → T (same (at4 f) (at4 g)) → (q : Place ℤ) (a b c d : Pt ℤ) →
+    eval (at4 f) (row q (a ∷ b ∷ c ∷ d ∷ [])) ≡ eval (at4 g) (row q (a ∷ b ∷ c ∷ d ∷ []))
 by-q4 f g t q a b c d = solve (at4 f) (at4 g) (row q (a ∷ b ∷ c ∷ d ∷ [])) t
 
-pub by-q5 : (f g : Place Expr → PtE → PtE → PtE → PtE → PtE → Expr) → T (same (at5 f) (at5 g)) → (q : Place ℤ) (a b c d e : Pt ℤ) → eval (at5 f) (row q (a ∷ b ∷ c ∷ d ∷ e ∷ [])) ≡ eval (at5 g) (row q (a ∷ b ∷ c ∷ d ∷ e ∷ []))
+pub by-q5 : (f g : Place Expr → PtE → PtE → PtE → PtE → PtE → Expr) → T (same (at5 f) (at5 g)) → (q : Place ℤ) (a b c d e : Pt ℤ) →
+    eval (at5 f) (row q (a ∷ b ∷ c ∷ d ∷ e ∷ [])) ≡ eval (at5 g) (row q (a ∷ b ∷ c ∷ d ∷ e ∷ []))
 by-q5 f g t q a b c d e = solve (at5 f) (at5 g) (row q (a ∷ b ∷ c ∷ d ∷ e ∷ [])) t

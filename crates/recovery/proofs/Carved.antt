@@ -108,7 +108,12 @@ module _ {ps : List ℤ} {qs : List ℕ} {k : ℕ} {w : List ℕ} {T x : ℕ} (s
     net2 = ap (λ (u : List ℕ). netOf u T) m ∙ mark-net n w1 T (3 * root) (adj w1 (3 * root)) (o .room .long) h-near p-near
 
     pub suspects-asked : Room n T w2 × (j ≤ T) × Different j (slotOf n w2)
-    suspects-asked = (room2, carved .few, λ y z l b e. (let i = carved .apart y z (let v = l in omega arith) b (ap (λ (f : ℕ → ℕ). f y) (sym slots2) ∙ e ∙ ap (λ (f : ℕ → ℕ). f z) slots2) in let c : y ≡ z → ⊥ = omega arith in c i))
+    suspects-asked = (
+      room2,
+      carved .few,
+      λ y z l b e. (let i = carved .apart y z (let v = l in omega arith) b
+          (ap (λ (f : ℕ → ℕ). f y) (sym slots2) ∙ e ∙ ap (λ (f : ℕ → ℕ). f z) slots2) in let c : y ≡ z → ⊥ = omega arith in c i),
+    )
 
     -- they are suspects
     module _ {w3 : List ℕ} (v : Suspected n T j w2 w3) where

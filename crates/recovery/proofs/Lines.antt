@@ -90,7 +90,8 @@ module _ {ps : List ℤ} {qs : List ℕ} {k : ℕ} {w : List ℕ} {T : ℕ} (s :
   mark-fits h l = near n w h (s .room .some) (s .room .sound) (let z = few in omega arith)
 
   pub can-mark-it : (h : ℕ) → h < 3 * T → CanMark w h
-  can-mark-it h l = let a = s .room .less in let b = s .figure .few in let c = s .room .long in let d = s .room .sound h (let z = few in omega arith) in let e = s .room .some in (omega arith, omega arith, omega arith)
+  can-mark-it h l = let a = s .room .less in let b = s .figure .few in let c = s .room .long in
+      let d = s .room .sound h (let z = few in omega arith) in let e = s .room .some in (omega arith, omega arith, omega arith)
 
   -- the edge of half-edge h is pair k: it is marked
   pub marked-edge : (h : ℕ) → h < 3 * T → EdgeOf (netOf w T) h (endA qs k) (endB qs k) → {w′ : List ℕ} → w′ ≡ markW w h (adj w h) → Lined ps qs (suc k) w′ T × Kept n w w′

@@ -35,7 +35,8 @@ use Rattle.tracks.specs.Tracks.{figure, Track}
 use Rattle.tracks.proofs.Walked.{tracks, sticks-on-way, sticks-at-apex}
 use Rattle.remakes.specs.Remakes.{Carved, Carves, Grounds}
 
-module _ (ps : List ℤ) (qs : List ℕ) (k : ℕ) (w : List ℕ) (T x j : ℕ) (w′ : List ℕ) (p : Paired ps qs k (netOf w T)) (room : Room (pointCount ps) T w) (lv : Leaves (point ps) (netOf w T) (endA qs k) (endB qs k) x)
+module _ (ps : List ℤ) (qs : List ℕ) (k : ℕ) (w : List ℕ) (T x j : ℕ) (w′ : List ℕ) (p : Paired ps qs k (netOf w T)) (room : Room (pointCount ps) T w)
+    (lv : Leaves (point ps) (netOf w T) (endA qs k) (endB qs k) x)
     (o : WholeW (point ps) (pointCount ps) T (endA qs k) (endB qs k) w x j w′) where
   abbrev n : ℕ
   n = pointCount ps

@@ -37,7 +37,8 @@ module _ (z w : ℕ → Pt ℤ) (i j : ℕ) (ns : Needles z w i j) where
       before : Pos (orient (w u) (z u) (z h))
       before =
           subst (λ (p : Pt ℤ). Pos (orient (w u) (z u) p)) e
-          (step' (z i) (z j) (z u) (w u) (z l) (w l) pu (over l il (omega arith)) (ns .apart l u il lu (omega arith)) (λ q. n (q ∙ e)) (subst (λ (p : Pt ℤ). Clear (z i) (z j) p (z u)) (sym e) c) .before)
+          (step' (z i) (z j) (z u) (w u) (z l) (w l) pu (over l il (omega arith)) (ns .apart l u il lu (omega arith)) (λ q. n (q ∙ e))
+          (subst (λ (p : Pt ℤ). Clear (z i) (z j) p (z u)) (sym e) c) .before)
 
   module _ (k : ℕ) (ap : Apex z i j k) where
     pub apex-left : Pos (orient (z i) (z j) (z k))
@@ -83,14 +84,16 @@ module _ (z w : ℕ → Pt ℤ) (i j : ℕ) (ns : Needles z w i j) where
 
     pub before-apex : Needles z w i k
     before-apex = record {
-      pierce = λ x l h. let g = ap .high in step (z i) (z j) (z x) (w x) (z k) (w k) (ns .pierce x l (omega arith)) (over k (ap .low) g) (ns .apart x k l h g) (early x l h) (ap .clear x l (omega arith));
+      pierce = λ x l h. let g = ap .high in step (z i) (z j) (z x) (w x) (z k) (w k) (ns .pierce x l (omega arith)) (over k (ap .low) g)
+          (ns .apart x k l h g) (early x l h) (ap .clear x l (omega arith));
       apart = λ x y l m h. let g = ap .high in ns .apart x y l m (omega arith);
       differ = λ x l h. let g = ap .high in ns .differ x l (omega arith);
     }
 
     pub behind-apex : Needles z w k j
     behind-apex = record {
-      pierce = λ x l h. let g = ap .low in step' (z i) (z j) (z x) (w x) (z k) (w k) (ns .pierce x (omega arith) h) (over k g (ap .high)) (ns .apart k x g l h) (once x (omega arith) h (omega arith)) (ap .clear x (omega arith) h);
+      pierce = λ x l h. let g = ap .low in step' (z i) (z j) (z x) (w x) (z k) (w k) (ns .pierce x (omega arith) h) (over k g (ap .high))
+          (ns .apart k x g l h) (once x (omega arith) h (omega arith)) (ap .clear x (omega arith) h);
       apart = λ x y l m h. let g = ap .low in ns .apart x y (omega arith) m h;
       differ = λ x l h. let g = ap .low in ns .differ x (omega arith) h;
     }

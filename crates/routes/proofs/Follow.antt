@@ -75,13 +75,15 @@ module _ (W : World) (pts : ℕ → Pt ℤ) (Edge : ℕ → ℕ → Type 0) (a b
 
     pub beyond : (w : ℕ) → σ1 .org g ≡ w → Pierce a b (pts (F .cl l)) (pts (F .cr r)) → ¬ (b ≡ pts w) → Beyond (pts (F .cl l)) (pts (F .cr r)) (pts w) b
     beyond w e p ne h k =
-        sees .alone (F .slot n) (σ1 .mate x) f g small three (λ q. not-second a b (pts (F .cl l)) (p .left) (q ∙ ap pts e-org)) (λ q. not-first b a (pts (F .cr r)) (p .right) (q ∙ ap pts f-org)) (λ q. ne (q ∙ ap pts (g-org w e)))
+        sees .alone (F .slot n) (σ1 .mate x) f g small three (λ q. not-second a b (pts (F .cl l)) (p .left) (q ∙ ap pts e-org))
+        (λ q. not-first b a (pts (F .cr r)) (p .right) (q ∙ ap pts f-org)) (λ q. ne (q ∙ ap pts (g-org w e)))
         (at e-org f-org (pos-nn (p .after))) (at f-org (g-org w e) h) (at (g-org w e) e-org k)
       where
         at : {u v u' v' : ℕ} → u ≡ u' → v ≡ v' → NonNeg (orient (pts u') (pts v') b) → NonNeg (orient (pts u) (pts v) b)
         at p q h = subst (λ (X : Type 0). X) (λ i. NonNeg (orient (pts (sym p i)) (pts (sym q i)) b)) h
 
-  follow-start : (f x g : ℕ) (σ2 : Net) → 1 < cap → Strip W F t 1 1 1 x σ σ2 → Three (F .slot 0) f x g → F .slot 0 < t → σ .org f ≡ F .cl 0 → σ .org x ≡ F .cr 1 → σ .org g ≡ F .cl 1 → F .Left (F .cl 1) → F .Right (F .cr 1) → Route pts Edge (F .cl) (F .cr) a b 1 1 1
+  follow-start : (f x g : ℕ) (σ2 : Net) → 1 < cap → Strip W F t 1 1 1 x σ σ2 → Three (F .slot 0) f x g → F .slot 0 < t → σ .org f ≡ F .cl 0 →
+      σ .org x ≡ F .cr 1 → σ .org g ≡ F .cl 1 → F .Left (F .cl 1) → F .Right (F .cr 1) → Route pts Edge (F .cl) (F .cr) a b 1 1 1
   follow-start f x g σ2 fits st three small ef ex eg l r =
       first (record {
         edge = exit-edge 1 1 1 x σ2 fits st;
@@ -102,39 +104,50 @@ module _ (W : World) (pts : ℕ → Pt ℤ) (Edge : ℕ → ℕ → Type 0) (a b
 
       inner : NonNeg (orient (pts (F .cr 1)) (pts (F .cl 1)) b) → ⊥
       inner h =
-          sees .alone (F .slot 0) f x g small three (λ q. two-ends a b (pts (F .cl 1)) on-left (q ∙ ap pts ef ∙ sees .from)) (λ q. not-first b a (pts (F .cr 1)) on-right (q ∙ ap pts ex)) (λ q. not-second a b (pts (F .cl 1)) on-left (q ∙ ap pts eg))
-          (at (ap pts ef ∙ sees .from) (ap pts ex) (pos-nn (pos-by (orient-cyc a (pts (F .cr 1)) b ∙ orient-cyc (pts (F .cr 1)) b a) on-right))) (at (ap pts ex) (ap pts eg) h) (at (ap pts eg) (ap pts ef ∙ sees .from) (pos-nn (pos-by (orient-cyc (pts (F .cl 1)) a b) on-left)))
+          sees .alone (F .slot 0) f x g small three (λ q. two-ends a b (pts (F .cl 1)) on-left (q ∙ ap pts ef ∙ sees .from))
+          (λ q. not-first b a (pts (F .cr 1)) on-right (q ∙ ap pts ex)) (λ q. not-second a b (pts (F .cl 1)) on-left (q ∙ ap pts eg))
+          (at (ap pts ef ∙ sees .from) (ap pts ex) (pos-nn (pos-by (orient-cyc a (pts (F .cr 1)) b ∙ orient-cyc (pts (F .cr 1)) b a) on-right)))
+          (at (ap pts ex) (ap pts eg) h) (at (ap pts eg) (ap pts ef ∙ sees .from) (pos-nn (pos-by (orient-cyc (pts (F .cl 1)) a b) on-left)))
 
       after : Pos (orient (pts (F .cl 1)) (pts (F .cr 1)) b)
       after = pos-or (orient (pts (F .cl 1)) (pts (F .cr 1)) b) (orient (pts (F .cr 1)) (pts (F .cl 1)) b) (turn (pts (F .cl 1)) (pts (F .cr 1)) b) (λ h. h) (λ h. absurd (inner h))
 
-  follow-left : (n l r x f g y : ℕ) (σ1 σ3 : Net) → suc n < cap → Strip W F t n l r x σ σ1 → Strip W F t (suc n) (suc l) r y σ σ3 → σ1 .has x ≡ true → Three (F .slot n) (σ1 .mate x) f g → F .slot n < t → σ1 .org g ≡ F .cl (suc l) → F .Left (F .cl (suc l)) → Route pts Edge (F .cl) (F .cr) a b n l r → Route pts Edge (F .cl) (F .cr) a b (suc n) (suc l) r
+  follow-left : (n l r x f g y : ℕ) (σ1 σ3 : Net) → suc n < cap → Strip W F t n l r x σ σ1 → Strip W F t (suc n) (suc l) r y σ σ3 → σ1 .has x ≡ true →
+      Three (F .slot n) (σ1 .mate x) f g → F .slot n < t → σ1 .org g ≡ F .cl (suc l) → F .Left (F .cl (suc l)) →
+      Route pts Edge (F .cl) (F .cr) a b n l r → Route pts Edge (F .cl) (F .cr) a b (suc n) (suc l) r
   follow-left n l r x f g y σ1 σ3 fits st st' has three small eg s ρ =
       let d = entered n l r x f g σ1 (omega arith) st has three small (F .cl (suc l)) eg in
       let p = last-gate pts Edge (F .cl) (F .cr) a b ρ .pierce in
       let o = sees .left (F .cl (suc l)) s in
       more-left ρ d (record {
         edge = exit-edge (suc n) (suc l) r y σ3 fits st';
-        pierce = go-left a b (pts (F .cl l)) (pts (F .cr r)) (pts (F .cl (suc l))) p d (beyond n l r x f g σ1 (omega arith) st has three small (F .cl (suc l)) eg p (not-second a b (pts (F .cl (suc l))) o)) o;
+        pierce = go-left a b (pts (F .cl l)) (pts (F .cr r)) (pts (F .cl (suc l))) p d
+            (beyond n l r x f g σ1 (omega arith) st has three small (F .cl (suc l)) eg p (not-second a b (pts (F .cl (suc l))) o)) o;
       })
 
-  follow-right : (n l r x f g y : ℕ) (σ1 σ3 : Net) → suc n < cap → Strip W F t n l r x σ σ1 → Strip W F t (suc n) l (suc r) y σ σ3 → σ1 .has x ≡ true → Three (F .slot n) (σ1 .mate x) f g → F .slot n < t → σ1 .org g ≡ F .cr (suc r) → F .Right (F .cr (suc r)) → Route pts Edge (F .cl) (F .cr) a b n l r → Route pts Edge (F .cl) (F .cr) a b (suc n) l (suc r)
+  follow-right : (n l r x f g y : ℕ) (σ1 σ3 : Net) → suc n < cap → Strip W F t n l r x σ σ1 → Strip W F t (suc n) l (suc r) y σ σ3 →
+      σ1 .has x ≡ true → Three (F .slot n) (σ1 .mate x) f g → F .slot n < t → σ1 .org g ≡ F .cr (suc r) → F .Right (F .cr (suc r)) →
+      Route pts Edge (F .cl) (F .cr) a b n l r → Route pts Edge (F .cl) (F .cr) a b (suc n) l (suc r)
   follow-right n l r x f g y σ1 σ3 fits st st' has three small eg s ρ =
       let d = entered n l r x f g σ1 (omega arith) st has three small (F .cr (suc r)) eg in
       let p = last-gate pts Edge (F .cl) (F .cr) a b ρ .pierce in
       let o = sees .right (F .cr (suc r)) s in
       more-right ρ d (record {
         edge = exit-edge (suc n) l (suc r) y σ3 fits st';
-        pierce = go-right a b (pts (F .cl l)) (pts (F .cr r)) (pts (F .cr (suc r))) p d (beyond n l r x f g σ1 (omega arith) st has three small (F .cr (suc r)) eg p (not-first b a (pts (F .cr (suc r))) o)) o;
+        pierce = go-right a b (pts (F .cl l)) (pts (F .cr r)) (pts (F .cr (suc r))) p d
+            (beyond n l r x f g σ1 (omega arith) st has three small (F .cr (suc r)) eg p (not-first b a (pts (F .cr (suc r))) o)) o;
       })
 
 -- A WALK IS A ROUTE
-pub follow : {n l r x : ℕ} {σ σ' : Net} (W : World) (pts : ℕ → Pt ℤ) (Edge : ℕ → ℕ → Type 0) (a b : Pt ℤ) (F : Figure) (t cap : ℕ) → Tiled W (CcwP pts) (F .vt) t cap σ → Sees pts Edge a b F t σ → n < cap → Walk F t n l r x σ σ' → Route pts Edge (F .cl) (F .cr) a b n l r
+pub follow : {n l r x : ℕ} {σ σ' : Net} (W : World) (pts : ℕ → Pt ℤ) (Edge : ℕ → ℕ → Type 0) (a b : Pt ℤ) (F : Figure) (t cap : ℕ) →
+    Tiled W (CcwP pts) (F .vt) t cap σ → Sees pts Edge a b F t σ → n < cap → Walk F t n l r x σ σ' → Route pts Edge (F .cl) (F .cr) a b n l r
 follow W pts Edge a b F t cap til sees fits (start {f = f} {x = x} {g = g} {σ = σ} {σ1 = σ1} {σ2 = σ2} three small ef ef' ex eg l r m o p q) =
     follow-start W pts Edge a b F t cap σ til sees f x g σ2 fits (walk-strip W (CcwP pts) F t cap til fits (start three small ef ef' ex eg l r m o p q)) three small ef ex eg l r
 follow W pts Edge a b F t cap til sees fits (left {n = n} {l = l} {r = r} {x = x} {f = f} {g = g} {σ = σ} {σ1 = σ1} {σ2 = σ2} {σ3 = σ3} w has plain three small eg s e drop park) =
-    follow-left W pts Edge a b F t cap σ til sees n l r x f g f σ1 σ3 fits (walk-strip W (CcwP pts) F t cap til (omega arith) w) (walk-strip W (CcwP pts) F t cap til fits (left w has plain three small eg s e drop park)) has three small eg s
+    follow-left W pts Edge a b F t cap σ til sees n l r x f g f σ1 σ3 fits (walk-strip W (CcwP pts) F t cap til (omega arith) w)
+    (walk-strip W (CcwP pts) F t cap til fits (left w has plain three small eg s e drop park)) has three small eg s
     (follow W pts Edge a b F t cap til sees (omega arith) w)
 follow W pts Edge a b F t cap til sees fits (right {n = n} {l = l} {r = r} {x = x} {f = f} {g = g} {σ = σ} {σ1 = σ1} {σ2 = σ2} {σ3 = σ3} w has plain three small eg s e drop park) =
-    follow-right W pts Edge a b F t cap σ til sees n l r x f g g σ1 σ3 fits (walk-strip W (CcwP pts) F t cap til (omega arith) w) (walk-strip W (CcwP pts) F t cap til fits (right w has plain three small eg s e drop park)) has three small eg s
+    follow-right W pts Edge a b F t cap σ til sees n l r x f g g σ1 σ3 fits (walk-strip W (CcwP pts) F t cap til (omega arith) w)
+    (walk-strip W (CcwP pts) F t cap til fits (right w has plain three small eg s e drop park)) has three small eg s
     (follow W pts Edge a b F t cap til sees (omega arith) w)

@@ -23,12 +23,15 @@ lean-b = by5 (λ a b p q w. orientE b a q ⊗ orientE p w b ⊕ (orientE a b p �
 
 module _ (a b p q w : Pt ℤ) (g : Pierce a b p q) (d : Pos (orient p q w)) (out : Beyond p q w b) where
   exit-a : NonNeg (orient a b w) → Pos (orient q w a)
-  exit-a f = pos-or (orient q w a) (orient w q a) (turn q w a) (λ h. h) (λ h. absurd (not-zero (pos+nn (pos*pos (g .right) (pos+nn d (nn+nn h (pos-nn (g .before))))) (nn+nn (nn*nn (pos-nn (g .left)) h) (nn*nn f (pos-nn (g .before))))) (lean-a a b p q w)))
+  exit-a f = pos-or (orient q w a) (orient w q a) (turn q w a) (λ h. h)
+      (λ h. absurd (not-zero (pos+nn (pos*pos (g .right) (pos+nn d (nn+nn h (pos-nn (g .before)))))
+      (nn+nn (nn*nn (pos-nn (g .left)) h) (nn*nn f (pos-nn (g .before))))) (lean-a a b p q w)))
 
   exit-b : NonNeg (orient a b w) → Pos (orient w q b)
   exit-b f =
       pos-or (orient w q b) (orient q w b) (turn w q b) (λ h. h)
-      (λ h. absurd (pos-or (orient p w b) (orient w p b) (turn p w b) (λ k. not-zero (pos+nn (pos*pos (g .right) k) (nn+nn (nn*nn (pos-nn (g .left)) h) (nn*nn f (pos-nn (g .after))))) (lean-b a b p q w)) (λ k. out h k)))
+      (λ h. absurd (pos-or (orient p w b) (orient w p b) (turn p w b)
+      (λ k. not-zero (pos+nn (pos*pos (g .right) k) (nn+nn (nn*nn (pos-nn (g .left)) h) (nn*nn f (pos-nn (g .after))))) (lean-b a b p q w)) (λ k. out h k)))
 
   pub go-left : Pos (orient a b w) → Pierce a b w q
   go-left f = record { left = f; right = g .right; before = exit-a (pos-nn f); after = exit-b (pos-nn f) }
@@ -40,7 +43,12 @@ module _ (a b p q w : Pt ℤ) (g : Pierce a b p q) (d : Pos (orient p q w)) (out
 
 pub go-right : (a b p q w : Pt ℤ) → Pierce a b p q → Pos (orient p q w) → Beyond p q w b → Pos (orient b a w) → Pierce a b p w
 go-right a b p q w g d out f =
-    let s = go-left (mir a) (mir b) (mir q) (mir p) (mir w) (record { left = pos-mir a b q (g .right); right = pos-mir b a p (g .left); before = pos-mir p q a (g .before); after = pos-mir q p b (g .after) }) (pos-mir q p w d) (λ h k. out (mir-nn w q b k) (mir-nn p w b h)) (pos-mir a b w f) in
+    let s = go-left (mir a) (mir b) (mir q) (mir p) (mir w) (record {
+      left = pos-mir a b q (g .right);
+      right = pos-mir b a p (g .left);
+      before = pos-mir p q a (g .before);
+      after = pos-mir q p b (g .after);
+    }) (pos-mir q p w d) (λ h k. out (mir-nn w q b k) (mir-nn p w b h)) (pos-mir a b w f) in
     record { left = mir-pos b a p (s .right); right = mir-pos a b w (s .left); before = mir-pos p w a (s .before); after = mir-pos w p b (s .after) }
 
 -- THE WALK'S STEP

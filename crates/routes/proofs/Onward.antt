@@ -19,7 +19,9 @@ use Rattle.routes.proofs.Follow.{follow, entered, beyond}
 use Rattle.routes.proofs.Gate.{next}
 use Rattle.routes.proofs.Route.{last-gate}
 
-module _ (W : World) (pts : ℕ → Pt ℤ) (Edge : ℕ → ℕ → Type 0) (a b : Pt ℤ) (F : Figure) (t cap : ℕ) (σ : Net) (til : Tiled W (CcwP pts) (F .vt) t cap σ) (sees : Sees pts Edge a b F t σ) (bars : Bars W pts a b) (n l r x : ℕ) (σ1 : Net) (fits : n < cap) (walk : Walk F t n l r x σ σ1) where
+module _ (W : World) (pts : ℕ → Pt ℤ) (Edge : ℕ → ℕ → Type 0) (a b : Pt ℤ) (F : Figure) (t cap : ℕ) (σ : Net)
+    (til : Tiled W (CcwP pts) (F .vt) t cap σ) (sees : Sees pts Edge a b F t σ) (bars : Bars W pts a b) (n l r x : ℕ) (σ1 : Net) (fits : n < cap)
+    (walk : Walk F t n l r x σ σ1) where
   st : Strip W F t n l r x σ σ1
   st = walk-strip W (CcwP pts) F t cap til fits walk
 
@@ -40,7 +42,9 @@ module _ (W : World) (pts : ℕ → Pt ℤ) (Edge : ℕ → ℕ → Type 0) (a b
   pub onward : (f g : ℕ) → Three (F .slot n) (σ1 .mate x) f g → F .slot n < t → (Dec (b ≡ pts (σ1 .org g))) → Met pts a b (σ1 .org g)
   onward f g three small (yes e) = meets e
   onward f g three small (no ne) =
-      go (next a b (pts (F .cl l)) (pts (F .cr r)) (pts (σ1 .org g)) gate (entered W pts Edge a b F t cap σ til sees n l r x f g σ1 fits st neighbour three small (σ1 .org g) refl) (beyond W pts Edge a b F t cap σ til sees n l r x f g σ1 fits st neighbour three small (σ1 .org g) refl gate ne) (bars .clear (σ1 .org g)))
+      go (next a b (pts (F .cl l)) (pts (F .cr r)) (pts (σ1 .org g)) gate
+      (entered W pts Edge a b F t cap σ til sees n l r x f g σ1 fits st neighbour three small (σ1 .org g) refl)
+      (beyond W pts Edge a b F t cap σ til sees n l r x f g σ1 fits st neighbour three small (σ1 .org g) refl gate ne) (bars .clear (σ1 .org g)))
     where
       go : Next a b (pts (F .cl l)) (pts (F .cr r)) (pts (σ1 .org g)) → Met pts a b (σ1 .org g)
       go (to-left h p) = left-of h
@@ -99,7 +103,9 @@ pigeon (suc t) (suc n) f low apart = go (search-for f (suc n) t) (λ k g a b. pi
         less : (v : ℕ) → v < suc t → ¬ (v ≡ t) → v < t
         less v l m = omega arith
     go (yes s) ih =
-        let h = ih n (λ z. f (skip (s .0) z (decLt z (s .0)))) (λ z l. under z l) (λ z w l m e. skip-same (s .0) z w (decLt z (s .0)) (decLt w (s .0)) (apart (skip (s .0) z (decLt z (s .0))) (skip (s .0) w (decLt w (s .0))) (skip-less (s .0) z n (decLt z (s .0)) l) (skip-less (s .0) w n (decLt w (s .0)) m) e)) in
+        let h = ih n (λ z. f (skip (s .0) z (decLt z (s .0)))) (λ z l. under z l)
+        (λ z w l m e. skip-same (s .0) z w (decLt z (s .0)) (decLt w (s .0))
+        (apart (skip (s .0) z (decLt z (s .0))) (skip (s .0) w (decLt w (s .0))) (skip-less (s .0) z n (decLt z (s .0)) l) (skip-less (s .0) w n (decLt w (s .0)) m) e)) in
         omega arith
       where
         less : (v : ℕ) → v < suc t → ¬ (v ≡ t) → v < t

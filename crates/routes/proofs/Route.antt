@@ -216,7 +216,8 @@ module _ (pts : ℕ → Pt ℤ) (Edge : ℕ → ℕ → Type 0) (cl cr : ℕ →
 
   -- ---- both chains
 
-  module _ (tidy : Tidy pts Edge) (m l r : ℕ) (ρ : Route pts Edge cl cr a b m l r) (a-left : pts (cl 0) ≡ a) (b-left : pts (cl (suc l)) ≡ b) (a-right : pts (cr 0) ≡ a) (b-right : pts (cr (suc r)) ≡ b) where
+  module _ (tidy : Tidy pts Edge) (m l r : ℕ) (ρ : Route pts Edge cl cr a b m l r) (a-left : pts (cl 0) ≡ a) (b-left : pts (cl (suc l)) ≡ b)
+      (a-right : pts (cr 0) ≡ a) (b-right : pts (cr (suc r)) ≡ b) where
     -- the corner k on the left, and its needle
     pub needle-left : ℕ → Pt ℤ
     needle-left k = pts (cr (rgt ρ (atl ρ k)))
@@ -251,9 +252,12 @@ module _ (pts : ℕ → Pt ℤ) (Edge : ℕ → ℕ → Type 0) (cl cr : ℕ →
           corner = λ k h n. at k (omega arith) (omega arith) ∙ ap (λ (t : ℕ). pts (cr t)) (sym (hit k h n .is));
           needle = λ k h n. refl;
           real = λ k h n. hit k h n .real;
-          differ = λ k h n e. differ-right ρ (suc l + suc r - suc k) (omega arith) (omega arith) (sym (at (suc k) (omega arith) (omega arith)) ∙ sym e ∙ at k (omega arith) (omega arith) ∙ ap (λ (t : ℕ). pts (cr t)) (less l r k h n));
+          differ = λ k h n e. differ-right ρ (suc l + suc r - suc k) (omega arith) (omega arith)
+              (sym (at (suc k) (omega arith) (omega arith)) ∙ sym e ∙ at k (omega arith) (omega arith) ∙ ap (λ (t : ℕ). pts (cr t)) (less l r k h n));
         })
-        (λ x y h n g. let gx : x < suc l + suc r = omega arith in let hy : suc l < y = omega arith in order (rgt ρ) (down-right ρ) (atr ρ (suc l + suc r - y)) (atr ρ (suc l + suc r - x)) (suc l + suc r - y) (suc l + suc r - x) (hit y hy g .is) (hit x h gx .is) (omega arith))
+        (λ x y h n g. let gx : x < suc l + suc r = omega arith in let hy : suc l < y = omega arith in
+        order (rgt ρ) (down-right ρ) (atr ρ (suc l + suc r - y)) (atr ρ (suc l + suc r - x)) (suc l + suc r - y) (suc l + suc r - x)
+        (hit y hy g .is) (hit x h gx .is) (omega arith))
       where
         begin : (l r : ℕ) → suc l + suc r - suc l ≡ suc r
         begin l r = omega arith
@@ -305,7 +309,8 @@ module _ (pts : ℕ → Pt ℤ) (Edge : ℕ → ℕ → Type 0) (cl cr : ℕ →
 
           go : Dec (x < suc l) → ⊥
           go (yes n) = step-left x n (ap pts (sym (c-left (suc x) n) ∙ e ∙ c-left x (omega arith)))
-          go (no n) = step-right (suc l + suc r - suc x) (omega arith) (ap pts (ap cr (sym (next l r x n h)) ∙ sym (c-right x (omega arith) (omega arith)) ∙ sym e ∙ c-right (suc x) (omega arith) (omega arith)))
+          go (no n) = step-right (suc l + suc r - suc x) (omega arith)
+              (ap pts (ap cr (sym (next l r x n h)) ∙ sym (c-right x (omega arith) (omega arith)) ∙ sym e ∙ c-right (suc x) (omega arith) (omega arith)))
 
       pub route-closes : Opened W c gp slot (suc l) (suc l + suc r) m PL PR σ → NeverSticks pts c gp slot (suc l) (suc l + suc r) m PL PR σ
       route-closes opn =

@@ -16,7 +16,9 @@ use Rattle.routes.proofs.Chain.{scan-apex, apex-left, before-apex, behi
 
 module _ (pts : ℕ → Pt ℤ) (c : ℕ → ℕ) where
   -- from the parts before and behind the scan's apex
-  join : (w : ℕ → Pt ℤ) (i j p : ℕ) → Needles (place pts c) w i j → suc i < j → ((k p : ℕ) → i < k → k < j → Needles (place pts c) w i k → Scanned pts c i k p) → ((k p : ℕ) → i < k → k < j → Needles (place pts c) w k j → Scanned pts c k j p) → Scanned pts c i j p
+  join : (w : ℕ → Pt ℤ) (i j p : ℕ) → Needles (place pts c) w i j → suc i < j →
+      ((k p : ℕ) → i < k → k < j → Needles (place pts c) w i k → Scanned pts c i k p) →
+      ((k p : ℕ) → i < k → k < j → Needles (place pts c) w k j → Scanned pts c k j p) → Scanned pts c i j p
   unfolding Scans
   join w i j p ns some before behind = at (scan (place pts c) i j) refl (scan-apex (place pts c) w i j ns some)
     where
@@ -40,7 +42,8 @@ module _ (pts : ℕ → Pt ℤ) (c : ℕ → ℕ) where
   fill-by w (suc fuel) i j p l h ns =
       go (ℕ-discrete (suc i) j) (λ k p a b m. fill-by w fuel i k p a (omega arith) m) (λ k p a b m. fill-by w fuel k j p b (omega arith) m)
     where
-      go : Dec (suc i ≡ j) → ((k p : ℕ) → i < k → k < j → Needles (place pts c) w i k → Scanned pts c i k p) → ((k p : ℕ) → i < k → k < j → Needles (place pts c) w k j → Scanned pts c k j p) → Scanned pts c i j p
+      go : Dec (suc i ≡ j) → ((k p : ℕ) → i < k → k < j → Needles (place pts c) w i k → Scanned pts c i k p) →
+          ((k p : ℕ) → i < k → k < j → Needles (place pts c) w k j → Scanned pts c k j p) → Scanned pts c i j p
       go (yes e) f g = last i j p e
       go (no n) f g = join w i j p ns (omega arith) f g
 
@@ -50,11 +53,13 @@ module _ (pts : ℕ → Pt ℤ) (c : ℕ → ℕ) where
 
 -- BOTH SIDES OF AN OPEN CAVITY: it closes, and each side is filled by the scan
 module _ (W : World) (pts : ℕ → Pt ℤ) (c gp slot : ℕ → ℕ) where
-  pub never-sticks : (w w' : ℕ → Pt ℤ) (n m r PL PR : ℕ) (σ : Net) → Opened W c gp slot n m r PL PR σ → 0 < n → suc n < m → m ≡ suc (suc (suc r)) → Needles (place pts c) w 0 n → Needles (place pts c) w' n m → ¬ (c n ≡ c 0) → Proper c 0 m → NeverSticks pts c gp slot n m r PL PR σ
+  pub never-sticks : (w w' : ℕ → Pt ℤ) (n m r PL PR : ℕ) (σ : Net) → Opened W c gp slot n m r PL PR σ → 0 < n → suc n < m → m ≡ suc (suc (suc r)) →
+      Needles (place pts c) w 0 n → Needles (place pts c) w' n m → ¬ (c n ≡ c 0) → Proper c 0 m → NeverSticks pts c gp slot n m r PL PR σ
   never-sticks w w' n m r PL PR σ opn l k e left right two proper = record {
     left = f;
     right = g;
-    closes = close-run W (CcwP pts) c gp slot n m (f .q) r PL PR σ opn (fits (f .q) (f .count)) two (f .plan) (subst (λ (t : ℕ). Plan (CcwP pts) c n m (f .q) t) (full (f .q) (g .q) (f .count) (g .count)) (g .plan)) proper;
+    closes = close-run W (CcwP pts) c gp slot n m (f .q) r PL PR σ opn (fits (f .q) (f .count)) two (f .plan)
+        (subst (λ (t : ℕ). Plan (CcwP pts) c n m (f .q) t) (full (f .q) (g .q) (f .count) (g .count)) (g .plan)) proper;
   }
     where
       f : Scanned pts c 0 n 0

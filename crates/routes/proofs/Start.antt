@@ -43,7 +43,8 @@ betw = by4 (λ p q u v. orientE q p v ⊗ (⊝ dotE u v p)) (λ p q u v. orientE
 pub between : (p q u v : Pt ℤ) → Pos (orient p q u) → Pos (orient q p v) → orient u v p ≡ pos 0 → Between u v p
 between p q u v h k e = record {
   on = e;
-  inner = pos-cancel (pos-nn k) (pos-by (betw p q u v ∙ ap (λ (t : ℤ). orient p q u *ℤ lift (minus v p) +ℤ t) (ap (λ (t : ℤ). t *ℤ dot q v p) e ∙ zero-*ℤ (dot q v p))) (pos+nn (pos*pos h long) (nn-pos 0)));
+  inner = pos-cancel (pos-nn k) (pos-by (betw p q u v ∙ ap (λ (t : ℤ). orient p q u *ℤ lift (minus v p) +ℤ t)
+      (ap (λ (t : ℤ). t *ℤ dot q v p) e ∙ zero-*ℤ (dot q v p))) (pos+nn (pos*pos h long) (nn-pos 0)));
 }
   where
     long : Pos (lift (minus v p))
@@ -100,7 +101,8 @@ module _ (a b : Pt ℤ) (gl gr : ℕ → Pt ℤ) (n : ℕ) (cor : Corridor a b g
       one : (g : ℕ) → suc g ≡ g + suc zero
       one g = omega arith
   rises g (suc d) l =
-      before-trans a b (gl g) (gr g) (gl (g + suc d)) (gr (g + suc d)) (gl (g + suc (suc d))) (gr (g + suc (suc d))) (cor .pierce g (omega arith) .after) (cor .pierce (g + suc d) (omega arith) .after) (cor .pierce (g + suc (suc d)) l .after) (rises g d (omega arith))
+      before-trans a b (gl g) (gr g) (gl (g + suc d)) (gr (g + suc d)) (gl (g + suc (suc d))) (gr (g + suc (suc d)))
+      (cor .pierce g (omega arith) .after) (cor .pierce (g + suc d) (omega arith) .after) (cor .pierce (g + suc (suc d)) l .after) (rises g d (omega arith))
       (subst (λ (t : ℕ). Before a b (gl (g + suc d)) (gr (g + suc d)) (gl t) (gr t)) (next g d) (cor .rise (g + suc d) (omega arith)))
     where
       next : (g d : ℕ) → suc (g + suc d) ≡ g + suc (suc d)
@@ -120,14 +122,16 @@ module _ (a b : Pt ℤ) (gl gr : ℕ → Pt ℤ) (n : ℕ) (cor : Corridor a b g
   right-apart : (g h : ℕ) → g < h → h < n → Apart (gr h) (gl h) (gr g) (gl g)
   right-apart g h l m =
       let k : g < n = omega arith in
-      gates-apart b a (gr h) (gl h) (gr g) (gl g) (pierce-turn (cor .pierce h m)) (pierce-turn (cor .pierce g k)) (pos-by (lead-turn a b (gl g) (gr g) (gl h) (gr h)) (in-order g h l m)) (cor .cross' h g m k)
+      gates-apart b a (gr h) (gl h) (gr g) (gl g) (pierce-turn (cor .pierce h m)) (pierce-turn (cor .pierce g k))
+      (pos-by (lead-turn a b (gl g) (gr g) (gl h) (gr h)) (in-order g h l m)) (cor .cross' h g m k)
       (λ t. cor .clear-right h g m k (between-turn (gr h) (gl h) (gr g) t)) (λ t. cor .clear-right g h k m (between-turn (gr g) (gl g) (gr h) t))
 
   -- THE LEFT CHAIN: its gates rise
   pub left-needles : (z w : ℕ → Pt ℤ) (i j : ℕ) (at : ℕ → ℕ) → Witness z w gl gr a b n i j at → ((k l : ℕ) → i < k → k < l → l < j → at k < at l) → Needles z w i j
   left-needles z w i j at wit up = record {
     pierce = λ k l h. pierce-by (wit .from) (wit .to) (wit .corner k l h) (wit .needle k l h) (cor .pierce (at k) (wit .real k l h));
-    apart = λ k l g m h. let ik : k < j = omega arith in let jl : i < l = omega arith in apart-by (wit .corner k g ik) (wit .needle k g ik) (wit .corner l jl h) (wit .needle l jl h) (left-apart (at k) (at l) (up k l g m h) (wit .real l jl h));
+    apart = λ k l g m h. let ik : k < j = omega arith in let jl : i < l = omega arith in
+        apart-by (wit .corner k g ik) (wit .needle k g ik) (wit .corner l jl h) (wit .needle l jl h) (left-apart (at k) (at l) (up k l g m h) (wit .real l jl h));
     differ = wit .differ;
   }
 
@@ -135,6 +139,7 @@ module _ (a b : Pt ℤ) (gl gr : ℕ → Pt ℤ) (n : ℕ) (cor : Corridor a b g
   pub right-needles : (z w : ℕ → Pt ℤ) (i j : ℕ) (at : ℕ → ℕ) → Witness z w gr gl b a n i j at → ((k l : ℕ) → i < k → k < l → l < j → at l < at k) → Needles z w i j
   right-needles z w i j at wit down = record {
     pierce = λ k l h. pierce-by (wit .from) (wit .to) (wit .corner k l h) (wit .needle k l h) (pierce-turn (cor .pierce (at k) (wit .real k l h)));
-    apart = λ k l g m h. let ik : k < j = omega arith in let jl : i < l = omega arith in apart-by (wit .corner k g ik) (wit .needle k g ik) (wit .corner l jl h) (wit .needle l jl h) (right-apart (at l) (at k) (down k l g m h) (wit .real k g ik));
+    apart = λ k l g m h. let ik : k < j = omega arith in let jl : i < l = omega arith in
+        apart-by (wit .corner k g ik) (wit .needle k g ik) (wit .corner l jl h) (wit .needle l jl h) (right-apart (at l) (at k) (down k l g m h) (wit .real k g ik));
     differ = wit .differ;
   }

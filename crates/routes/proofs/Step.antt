@@ -68,10 +68,12 @@ lagrange = by3 (λ x y c. liftE (minusE x c) ⊗ liftE (minusE y c)) (λ x y c. 
 pub both : (x y c : Pt ℤ) → Pos (orient x y c) → Pos (lift (minus x c) *ℤ lift (minus y c))
 both x y c d = pos-by (lagrange x y c) (pos+nn (pos*pos d d) (sq-nn (dot x y c)))
 
-tricirc : (x y c v : Pt ℤ) → orient c x v *ℤ (orient x y v *ℤ lift (minus y c)) +ℤ (orient y c v *ℤ (orient x y v *ℤ lift (minus x c)) +ℤ (orient y c v *ℤ (orient c x v *ℤ lift (minus x y)) +ℤ orient x y c *ℤ negℤ (incircle x y c v))) ≡ pos 0
+tricirc : (x y c v : Pt ℤ) → orient c x v *ℤ (orient x y v *ℤ lift (minus y c)) +ℤ
+    (orient y c v *ℤ (orient x y v *ℤ lift (minus x c)) +ℤ (orient y c v *ℤ (orient c x v *ℤ lift (minus x y)) +ℤ orient x y c *ℤ negℤ (incircle x y c v))) ≡ pos 0
 unfolding orient incircle
 tricirc =
-    by4 (λ x y c v. orientE c x v ⊗ (orientE x y v ⊗ liftE (minusE y c)) ⊕ (orientE y c v ⊗ (orientE x y v ⊗ liftE (minusE x c)) ⊕ (orientE y c v ⊗ (orientE c x v ⊗ liftE (minusE x y)) ⊕ orientE x y c ⊗ (⊝ incircleE x y c v))))
+    by4 (λ x y c v. orientE c x v ⊗ (orientE x y v ⊗ liftE (minusE y c)) ⊕ (orientE y c v ⊗ (orientE x y v ⊗ liftE
+    (minusE x c)) ⊕ (orientE y c v ⊗ (orientE c x v ⊗ liftE (minusE x y)) ⊕ orientE x y c ⊗ (⊝ incircleE x y c v))))
     (λ x y c v. con (pos 0)) tt
 
 bary-x : (x y c v : Pt ℤ) → orient x y c *ℤ (v .x -ℤ c .x) ≡ orient y c v *ℤ (x .x -ℤ c .x) +ℤ orient c x v *ℤ (y .x -ℤ c .x)
@@ -89,7 +91,9 @@ pub same-pt : (u v : Pt ℤ) → u .x -ℤ v .x ≡ pos 0 → u .y -ℤ v .y ≡
 same-pt u v e f = λ i. record { x = eq-of-sub-zero (u .x) (v .x) e i; y = eq-of-sub-zero (u .y) (v .y) f i }
 
 outside : (x y c v : Pt ℤ) → Pos (orient x y c) → Pos (orient x y v) → ¬ (v ≡ c) → Clear x y c v → NonNeg (orient y c v) → NonNeg (orient c x v) → ⊥
-outside x y c v d ec n i ex ey = n (same-pt v c (zero-cancel (orient x y c) (v .x -ℤ c .x) d (bary-x x y c v ∙ zeros (orient y c v) (orient c x v) (x .x -ℤ c .x) (y .x -ℤ c .x) ex0 ey0)) (zero-cancel (orient x y c) (v .y -ℤ c .y) d (bary-y x y c v ∙ zeros (orient y c v) (orient c x v) (x .y -ℤ c .y) (y .y -ℤ c .y) ex0 ey0)))
+outside x y c v d ec n i ex ey = n (same-pt v c (zero-cancel (orient x y c) (v .x -ℤ c .x) d
+    (bary-x x y c v ∙ zeros (orient y c v) (orient c x v) (x .x -ℤ c .x) (y .x -ℤ c .x) ex0 ey0))
+    (zero-cancel (orient x y c) (v .y -ℤ c .y) d (bary-y x y c v ∙ zeros (orient y c v) (orient c x v) (x .y -ℤ c .y) (y .y -ℤ c .y) ex0 ey0)))
   where
     last : NonNeg (orient y c v *ℤ (orient c x v *ℤ lift (minus x y)) +ℤ orient x y c *ℤ negℤ (incircle x y c v))
     last = nn+nn (nn*nn ex (nn*nn ey (lift-nn (minus x y)))) (pos*nn d i)
@@ -128,7 +132,9 @@ sides v r c R a n kv hc = go (sign (orient c R v)) (sign (orient r v c))
     go (is-zero p) (is-neg q) = no-sign (orient r v c) hc q
     go (is-zero p) (is-pos q) = a .qc p q (a .q2 hc)
     go (is-zero p) (is-zero q) =
-        n (same-pt v c (zero-cancel (orient R c r) (v .x -ℤ c .x) (a .q1 kv) (vec-x v r c R ∙ zeros (orient c R v) (orient r v c) (c .x -ℤ r .x) (R .x -ℤ c .x) p q)) (zero-cancel (orient R c r) (v .y -ℤ c .y) (a .q1 kv) (vec-y v r c R ∙ zeros (orient c R v) (orient r v c) (c .y -ℤ r .y) (R .y -ℤ c .y) p q)))
+        n (same-pt v c (zero-cancel (orient R c r) (v .x -ℤ c .x) (a .q1 kv)
+        (vec-x v r c R ∙ zeros (orient c R v) (orient r v c) (c .x -ℤ r .x) (R .x -ℤ c .x) p q))
+        (zero-cancel (orient R c r) (v .y -ℤ c .y) (a .q1 kv) (vec-y v r c R ∙ zeros (orient c R v) (orient r v c) (c .y -ℤ r .y) (R .y -ℤ c .y) p q)))
 
 s1-k : (x y c v R : Pt ℤ) → orient x y c *ℤ orient c R v ≡ orient c y v *ℤ orient R c x +ℤ orient c x v *ℤ orient c R y
 unfolding orient
@@ -143,11 +149,14 @@ s2-ex : (x y c v r : Pt ℤ) → orient r v x *ℤ orient c y v ≡ orient x c v
 unfolding orient
 s2-ex = by5 (λ x y c v r. orientE r v x ⊗ orientE c y v) (λ x y c v r. orientE x c v ⊗ orientE v r y ⊕ orientE x y v ⊗ orientE r v c) tt
 
-s2-end : (x y c v r R : Pt ℤ) → (orient v r R +ℤ (orient R c v +ℤ orient r v c)) *ℤ (orient x c v +ℤ orient c y v) +ℤ (orient R c v *ℤ (orient x y c +ℤ orient y x r) +ℤ orient r v c *ℤ (orient R c x +ℤ orient c R y)) ≡ pos 0
+s2-end : (x y c v r R : Pt ℤ) → (orient v r R +ℤ (orient R c v +ℤ orient r v c)) *ℤ (orient x c v +ℤ orient c y v) +ℤ
+    (orient R c v *ℤ (orient x y c +ℤ orient y x r) +ℤ orient r v c *ℤ (orient R c x +ℤ orient c R y)) ≡ pos 0
 unfolding orient
 s2-end x y c v r R =
     solve
-    ((orientE (pt 3) (pt 4) (pt 5) ⊕ (orientE (pt 5) (pt 2) (pt 3) ⊕ orientE (pt 4) (pt 3) (pt 2))) ⊗ (orientE (pt 0) (pt 2) (pt 3) ⊕ orientE (pt 2) (pt 1) (pt 3)) ⊕ (orientE (pt 5) (pt 2) (pt 3) ⊗ (orientE (pt 0) (pt 1) (pt 2) ⊕ orientE (pt 1) (pt 0) (pt 4)) ⊕ orientE (pt 4) (pt 3) (pt 2) ⊗ (orientE (pt 5) (pt 2) (pt 0) ⊕ orientE (pt 2) (pt 5) (pt 1))))
+    ((orientE (pt 3) (pt 4) (pt 5) ⊕ (orientE (pt 5) (pt 2) (pt 3) ⊕ orientE (pt 4) (pt 3) (pt 2))) ⊗ (orientE (pt 0) (pt 2) (pt 3) ⊕ orientE (pt 2)
+    (pt 1) (pt 3)) ⊕ (orientE (pt 5) (pt 2) (pt 3) ⊗ (orientE (pt 0) (pt 1) (pt 2) ⊕ orientE (pt 1) (pt 0) (pt 4)) ⊕ orientE (pt 4) (pt 3)
+    (pt 2) ⊗ (orientE (pt 5) (pt 2) (pt 0) ⊕ orientE (pt 2) (pt 5) (pt 1))))
     (con (pos 0)) (flat (x ∷ y ∷ c ∷ v ∷ r ∷ R ∷ [])) tt
 
 s3-id : (x y c v r : Pt ℤ) → orient x y v *ℤ orient c x r ≡ orient x y c *ℤ orient r v x +ℤ orient y x r *ℤ orient x c v
@@ -156,7 +165,8 @@ s3-id = by5 (λ x y c v r. orientE x y v ⊗ orientE c x r) (λ x y c v r. orien
 
 module _ (x y v r c R : Pt ℤ) (p : Pierce x y v r) (o : Over x y c R) (a : Apart v r c R) (n : ¬ (v ≡ c)) (i : Clear x y c v) where
   s1 : Pos (orient x c v)
-  s1 = pos-or (orient x c v) (orient c x v) (turn x c v) (λ h. h) (λ ey. absurd (bad ey (pos-or (orient c y v) (orient y c v) (turn c y v) (λ h. h) (λ ex. absurd (outside x y c v (o .left) (p .left) n i ex ey)))))
+  s1 = pos-or (orient x c v) (orient c x v) (turn x c v) (λ h. h)
+      (λ ey. absurd (bad ey (pos-or (orient c y v) (orient y c v) (turn c y v) (λ h. h) (λ ex. absurd (outside x y c v (o .left) (p .left) n i ex ey)))))
     where
       bad : NonNeg (orient c x v) → Pos (orient c y v) → ⊥
       bad ey ex = pos-or (orient v r c) (orient r v c) (turn v r c) cross (sides v r c R a n (pos-nn kv))
@@ -177,7 +187,8 @@ module _ (x y v r c R : Pt ℤ) (p : Pierce x y v r) (o : Over x y c R) (a : Apa
           ex = pos-cancel (pos-nn (p .before)) (pos-by (s2-ex x y c v r) (pos+nn (pos*pos s1 (p .after)) (nn*nn (pos-nn (p .left)) hc)))
 
           go : Pos (orient R c v) → ⊥
-          go kv = not-zero (pos+nn (pos*pos (pos+nn (a .q2 hc) (nn+nn (pos-nn kv) hc)) (pos+pos s1 ex)) (nn+nn (pos-nn (pos*pos kv (pos+pos (o .left) (p .right)))) (nn*pos hc (pos+pos (o .before) (o .after))))) (s2-end x y c v r R)
+          go kv = not-zero (pos+nn (pos*pos (pos+nn (a .q2 hc) (nn+nn (pos-nn kv) hc)) (pos+pos s1 ex))
+              (nn+nn (pos-nn (pos*pos kv (pos+pos (o .left) (p .right)))) (nn*pos hc (pos+pos (o .before) (o .after))))) (s2-end x y c v r R)
 
   s3 : Pos (orient c x r)
   s3 = pos-cancel (pos-nn (p .left)) (pos-by (s3-id x y c v r) (pos+pos (pos*pos (o .left) (p .before)) (pos*pos (p .right) s1)))
@@ -226,5 +237,15 @@ mir-apart v r c R a = record {
 -- THE STEP, mirrored: a needle behind the apex's pierces the base behind the apex
 pub step' : (x y v r c R : Pt ℤ) → Pierce x y v r → Over x y c R → Apart c R v r → ¬ (v ≡ c) → Clear x y c v → Pierce c y v r
 step' x y v r c R p o a n i =
-    let s = step (mir y) (mir x) (mir v) (mir r) (mir c) (mir R) (record { left = pos-mir y x v (p .left); right = pos-mir x y r (p .right); before = pos-mir r v y (p .after); after = pos-mir v r x (p .before) }) (record { left = pos-mir y x c (o .left); before = pos-mir R c y (o .after); after = pos-mir c R x (o .before) }) (mir-apart v r c R a) (λ e. n (mir-same v c e)) (nn-by (ap negℤ (mir-circle x y c v)) i) in
+    let s = step (mir y) (mir x) (mir v) (mir r) (mir c) (mir R)
+    (record {
+      left = pos-mir y x v (p .left);
+      right = pos-mir x y r (p .right);
+      before = pos-mir r v y (p .after);
+      after = pos-mir v r x (p .before);
+    }) (record {
+      left = pos-mir y x c (o .left);
+      before = pos-mir R c y (o .after);
+      after = pos-mir c R x (o .before);
+    }) (mir-apart v r c R a) (λ e. n (mir-same v c e)) (nn-by (ap negℤ (mir-circle x y c v)) i) in
     record { left = mir-pos y c v (s .left); right = mir-pos c y r (s .right); before = mir-pos v r c (s .after); after = mir-pos r v y (s .before) }

@@ -21,5 +21,7 @@ pub record Gate (pts : ℕ → Pt ℤ) (Edge : ℕ → ℕ → Type 0) (a b : Pt
 -- Route pts Edge cl cr a b m l r: m gates, with l corners on the left and r on the right
 pub data Route (pts : ℕ → Pt ℤ) (Edge : ℕ → ℕ → Type 0) (cl cr : ℕ → ℕ) (a b : Pt ℤ) : ℕ → ℕ → ℕ → Type 0 where
   first : Gate pts Edge a b (cl 1) (cr 1) → Route pts Edge cl cr a b 1 1 1
-  more-left : {m l r : ℕ} → Route pts Edge cl cr a b m l r → Pos (orient (pts (cl l)) (pts (cr r)) (pts (cl (suc l)))) → Gate pts Edge a b (cl (suc l)) (cr r) → Route pts Edge cl cr a b (suc m) (suc l) r
-  more-right : {m l r : ℕ} → Route pts Edge cl cr a b m l r → Pos (orient (pts (cl l)) (pts (cr r)) (pts (cr (suc r)))) → Gate pts Edge a b (cl l) (cr (suc r)) → Route pts Edge cl cr a b (suc m) l (suc r)
+  more-left : {m l r : ℕ} → Route pts Edge cl cr a b m l r → Pos (orient (pts (cl l)) (pts (cr r)) (pts (cl (suc l)))) →
+      Gate pts Edge a b (cl (suc l)) (cr r) → Route pts Edge cl cr a b (suc m) (suc l) r
+  more-right : {m l r : ℕ} → Route pts Edge cl cr a b m l r → Pos (orient (pts (cl l)) (pts (cr r)) (pts (cr (suc r)))) →
+      Gate pts Edge a b (cl l) (cr (suc r)) → Route pts Edge cl cr a b (suc m) l (suc r)

@@ -23,7 +23,8 @@ pub record Sees (pts : ℕ → Pt ℤ) (Edge : ℕ → ℕ → Type 0) (a b : Pt
   pub left : (p : ℕ) → F .Left p → Pos (orient a b (pts p))
   pub right : (p : ℕ) → F .Right p → Pos (orient b a (pts p))
   pub from : pts (F .cl 0) ≡ a
-  pub alone : (s e f g : ℕ) → s < t → Three s e f g → ¬ (b ≡ pts (σ .org e)) → ¬ (b ≡ pts (σ .org f)) → ¬ (b ≡ pts (σ .org g)) → NonNeg (orient (pts (σ .org e)) (pts (σ .org f)) b) → NonNeg (orient (pts (σ .org f)) (pts (σ .org g)) b) → NonNeg (orient (pts (σ .org g)) (pts (σ .org e)) b) → ⊥
+  pub alone : (s e f g : ℕ) → s < t → Three s e f g → ¬ (b ≡ pts (σ .org e)) → ¬ (b ≡ pts (σ .org f)) → ¬ (b ≡ pts (σ .org g)) →
+      NonNeg (orient (pts (σ .org e)) (pts (σ .org f)) b) → NonNeg (orient (pts (σ .org f)) (pts (σ .org g)) b) → NonNeg (orient (pts (σ .org g)) (pts (σ .org e)) b) → ⊥
 
 -- no side of the base is crossed, and no corner lies between a and b
 pub record Bars (W : World) (pts : ℕ → Pt ℤ) (a b : Pt ℤ) : Type 0 where

@@ -73,5 +73,6 @@ module _ (ps : List ℤ) (near : Near ps) where
   pub read3 : {X : Type 0} (f : Pt ℤ → Pt ℤ → Pt ℤ → X) (a b c : ℕ) {ρ : List ℤ} → ρ ≡ row ps (a ∷ b ∷ c ∷ []) → {r : X} → r ≡ three f (backs w32 ρ) → r ≡ f (point ps a) (point ps b) (point ps c)
   read3 f a b c e h = h ∙ ap (λ (xs : List ℤ). three f (backs w32 xs)) e ∙ passed3 (row ps (a ∷ b ∷ c ∷ [])) (near-row (a ∷ b ∷ c ∷ [])) f
 
-  pub read4 : {X : Type 0} (f : Pt ℤ → Pt ℤ → Pt ℤ → Pt ℤ → X) (a b c d : ℕ) {ρ : List ℤ} → ρ ≡ row ps (a ∷ b ∷ c ∷ d ∷ []) → {r : X} → r ≡ four f (backs w32 ρ) → r ≡ f (point ps a) (point ps b) (point ps c) (point ps d)
+  pub read4 : {X : Type 0} (f : Pt ℤ → Pt ℤ → Pt ℤ → Pt ℤ → X) (a b c d : ℕ) {ρ : List ℤ} → ρ ≡ row ps (a ∷ b ∷ c ∷ d ∷ []) → {r : X} →
+      r ≡ four f (backs w32 ρ) → r ≡ f (point ps a) (point ps b) (point ps c) (point ps d)
   read4 f a b c d e h = h ∙ ap (λ (xs : List ℤ). four f (backs w32 xs)) e ∙ passed4 (row ps (a ∷ b ∷ c ∷ d ∷ [])) (near-row (a ∷ b ∷ c ∷ d ∷ [])) f

@@ -60,12 +60,18 @@ contrary t u y z e h = same t u y (negℤ z) e h ∙ ap (answer u) (sign-neg z) 
 pub laws : (k : ℕ) → SignLaws k
 unfolding orientAnswer circleAnswer answer
 laws k = record {
-  orient-cyclic = λ a b c. same (within k a && within k b && within k c) (within k b && within k c && within k a) (orient a b c) (orient b c a) (turn (within k a) (within k b) (within k c)) (orient-cyc a b c);
-  orient-antisymmetric = λ a b c. contrary (within k a && within k c && within k b) (within k a && within k b && within k c) (orient a c b) (orient a b c) (back (within k a) (within k c) (within k b)) (orient-last a b c);
-  orient-reversed = λ a b c. contrary (within k b && within k a && within k c) (within k a && within k b && within k c) (orient b a c) (orient a b c) (first (within k b) (within k a) (within k c)) (orient-swap b a c);
-  circle-cyclic = λ a b c d. same (all k a b c d) (all k b c a d) (incircle a b c d) (incircle b c a d) (ap (λ (t : Bool). t && within k d) (turn (within k a) (within k b) (within k c))) (incircle-cyc a b c d);
-  circle-antisymmetric = λ a b c d. contrary (all k a c b d) (all k a b c d) (incircle a c b d) (incircle a b c d) (ap (λ (t : Bool). t && within k d) (back (within k a) (within k c) (within k b))) (circle-last a b c d);
-  circle-reversed = λ a b c d. contrary (all k b a c d) (all k a b c d) (incircle b a c d) (incircle a b c d) (ap (λ (t : Bool). t && within k d) (first (within k b) (within k a) (within k c))) (incircle-swap b a c d);
+  orient-cyclic = λ a b c. same (within k a && within k b && within k c) (within k b && within k c && within k a) (orient a b c) (orient b c a)
+      (turn (within k a) (within k b) (within k c)) (orient-cyc a b c);
+  orient-antisymmetric = λ a b c. contrary (within k a && within k c && within k b) (within k a && within k b && within k c) (orient a c b)
+      (orient a b c) (back (within k a) (within k c) (within k b)) (orient-last a b c);
+  orient-reversed = λ a b c. contrary (within k b && within k a && within k c) (within k a && within k b && within k c) (orient b a c) (orient a b c)
+      (first (within k b) (within k a) (within k c)) (orient-swap b a c);
+  circle-cyclic = λ a b c d. same (all k a b c d) (all k b c a d) (incircle a b c d) (incircle b c a d)
+      (ap (λ (t : Bool). t && within k d) (turn (within k a) (within k b) (within k c))) (incircle-cyc a b c d);
+  circle-antisymmetric = λ a b c d. contrary (all k a c b d) (all k a b c d) (incircle a c b d) (incircle a b c d)
+      (ap (λ (t : Bool). t && within k d) (back (within k a) (within k c) (within k b))) (circle-last a b c d);
+  circle-reversed = λ a b c d. contrary (all k b a c d) (all k a b c d) (incircle b a c d) (incircle a b c d)
+      (ap (λ (t : Bool). t && within k d) (first (within k b) (within k a) (within k c))) (incircle-swap b a c d);
   circle-either-side = λ a b c d h. same (all k a b c d) (all k b a d c) (incircle a b c d) (incircle b a d c) (four (within k a) (within k b) (within k c) (within k d)) (incircle-flip a b c d);
 }
   where

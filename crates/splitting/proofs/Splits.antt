@@ -38,15 +38,18 @@ pub pushed-none : (n count : ℕ) (w : List ℕ) → Pushed n count w w 0 []
 unfolding Suspects
 pushed-none n count w = record { net = λ T. refl; size = refl; kept = kept-same n w; stack-is = stack-none w; ready = tt }
 
-pub push-more : (n count : ℕ) (w0 w : List ℕ) (m s : ℕ) (q : List ℕ) → 64 * n ≤ length w0 → count ≤ 4 * n → m < count → s < count → Fresh s q → Pushed n count w0 w m q → Pushed n count w0 (pushed w m s) (m + 1) (s ∷ q)
+pub push-more : (n count : ℕ) (w0 w : List ℕ) (m s : ℕ) (q : List ℕ) → 64 * n ≤ length w0 → count ≤ 4 * n → m < count → s < count → Fresh s q →
+    Pushed n count w0 w m q → Pushed n count w0 (pushed w m s) (m + 1) (s ∷ q)
 unfolding pushed
 push-more n count w0 w m s q r c mb sb f p = record {
-  net = λ T. net-set (set w (stackCell m) s) T (flagCell s) 1 (let e : 9 ≤ (16 * s + 9) % 16 = omega arith in e) ∙ net-set w T (stackCell m) s (let e : 9 ≤ (16 * m + 10) % 16 = omega arith in e) ∙ p .net T;
+  net = λ T. net-set (set w (stackCell m) s) T (flagCell s) 1 (let e : 9 ≤ (16 * s + 9) % 16 = omega arith in e)
+      ∙ net-set w T (stackCell m) s (let e : 9 ≤ (16 * m + 10) % 16 = omega arith in e) ∙ p .net T;
   size = pushed-length w m s ∙ p .size;
   kept = kept-then n w0 w (pushed w m s) (p .kept)
       (kept-then n w (set w (stackCell m) s) (pushed w m s)
       (kept-set n w (stackCell m) s (let e : 16 * m + 10 < 64 * n = omega arith in e) (let e : ¬ ((16 * m + 10) % 16 ≡ 11) = omega arith in e) (let e : (16 * m + 10) % 16 < 13 = omega arith in e))
-      (kept-set n (set w (stackCell m) s) (flagCell s) 1 (let e : 16 * s + 9 < 64 * n = omega arith in e) (let e : ¬ ((16 * s + 9) % 16 ≡ 11) = omega arith in e) (let e : (16 * s + 9) % 16 < 13 = omega arith in e)));
+      (kept-set n (set w (stackCell m) s) (flagCell s) 1 (let e : 16 * s + 9 < 64 * n = omega arith in e)
+      (let e : ¬ ((16 * s + 9) % 16 ≡ 11) = omega arith in e) (let e : (16 * s + 9) % 16 < 13 = omega arith in e)));
   stack-is = pushed-stack w m s (let e = p .size in omega arith) ∙ ap (λ (x : List ℕ). s ∷ x) (p .stack-is);
   ready = pushed-suspects w m s count q sb (let e = p .size in omega arith) f (p .ready);
 }
@@ -109,7 +112,8 @@ module _ {ps : List ℤ} {k : ℕ} {w : List ℕ} {T : ℕ} (d : Tiled ps k w T)
         b = push-more n (T + 2) w1 (pushed w1 0 t) 1 T (t ∷ []) room1 few4 (omega arith) (omega arith) (let f : ¬ (t ≡ T) = omega arith in (f, tt)) a
 
         c : Pushed n (T + 2) w1 (pushed (pushed (pushed w1 0 t) 1 T) 2 (T + 1)) 3 ((T + 1) ∷ T ∷ t ∷ [])
-        c = push-more n (T + 2) w1 (pushed (pushed w1 0 t) 1 T) 2 (T + 1) (T ∷ t ∷ []) room1 few4 (omega arith) (omega arith) (let f : ¬ (T ≡ T + 1) = omega arith in let g : ¬ (t ≡ T + 1) = omega arith in (f, (g, tt))) b
+        c = push-more n (T + 2) w1 (pushed (pushed w1 0 t) 1 T) 2 (T + 1) (T ∷ t ∷ []) room1 few4 (omega arith) (omega arith)
+            (let f : ¬ (T ≡ T + 1) = omega arith in let g : ¬ (t ≡ T + 1) = omega arith in (f, (g, tt))) b
 
     pub side-grown : (h : ℕ) → h < 3 * T → Grown ps w (oneSide m h k) (sidePushed w T h k) (T + 1) 2
     unfolding sidePushed netOf Fresh
@@ -171,10 +175,13 @@ module _ {ps : List ℤ} {k : ℕ} {w : List ℕ} {T : ℕ} (d : Tiled ps k w T)
         c2 = push-more n (T + 2) w1 (pushed w1 0 (h / 3)) 1 T ((h / 3) ∷ []) room1 few4 (omega arith) (omega arith) (let f : ¬ (h / 3 ≡ T) = omega arith in (f, tt)) c1
 
         c3 : Pushed n (T + 2) w1 (pushed (pushed (pushed w1 0 (h / 3)) 1 T) 2 (g / 3)) 3 ((g / 3) ∷ T ∷ (h / 3) ∷ [])
-        c3 = push-more n (T + 2) w1 (pushed (pushed w1 0 (h / 3)) 1 T) 2 (g / 3) (T ∷ (h / 3) ∷ []) room1 few4 (omega arith) (let z = gb in omega arith) (let z = gb in let f : ¬ (T ≡ g / 3) = omega arith in (f, (λ q. two (sym q), tt))) c2
+        c3 = push-more n (T + 2) w1 (pushed (pushed w1 0 (h / 3)) 1 T) 2 (g / 3) (T ∷ (h / 3) ∷ []) room1 few4 (omega arith)
+            (let z = gb in omega arith) (let z = gb in let f : ¬ (T ≡ g / 3) = omega arith in (f, (λ q. two (sym q), tt))) c2
 
         c4 : Pushed n (T + 2) w1 (pushed (pushed (pushed (pushed w1 0 (h / 3)) 1 T) 2 (g / 3)) 3 (T + 1)) 4 ((T + 1) ∷ (g / 3) ∷ T ∷ (h / 3) ∷ [])
-        c4 = push-more n (T + 2) w1 (pushed (pushed (pushed w1 0 (h / 3)) 1 T) 2 (g / 3)) 3 (T + 1) ((g / 3) ∷ T ∷ (h / 3) ∷ []) room1 few4 (let z = T-big in omega arith) (omega arith) (let z = gb in let f : ¬ (g / 3 ≡ T + 1) = omega arith in let f' : ¬ (T ≡ T + 1) = omega arith in let f″ : ¬ (h / 3 ≡ T + 1) = omega arith in (f, (f', (f″, tt)))) c3
+        c4 = push-more n (T + 2) w1 (pushed (pushed (pushed w1 0 (h / 3)) 1 T) 2 (g / 3)) 3 (T + 1) ((g / 3) ∷ T ∷ (h / 3) ∷ []) room1 few4
+            (let z = T-big in omega arith) (omega arith) (let z = gb in let f : ¬ (g / 3 ≡ T + 1) = omega arith in
+            let f' : ¬ (T ≡ T + 1) = omega arith in let f″ : ¬ (h / 3 ≡ T + 1) = omega arith in (f, (f', (f″, tt)))) c3
           where
             T-big : 2 ≤ T
             T-big = let z = gb in let t = two in let i : g / 3 < T = omega arith in let j : h / 3 < T = omega arith in omega arith
@@ -197,7 +204,8 @@ module _ {ps : List ℤ} {k : ℕ} {w : List ℕ} {T : ℕ} (d : Tiled ps k w T)
     pub side-asked : (h : ℕ) → h < 3 * T → InRange T w × ((h < 3 * T) × (k < 4096) × (16 * k + 16 ≤ length w) × (16 * (T + 1) ≤ length w) × (T + 1 ≤ 8192) × (48 ≤ length w))
     side-asked h hb = (in-range, (hb, let f = d .figure .few in omega arith, let r = d .room in omega arith, more1, let l = slots in omega arith, let l = long in omega arith))
 
-    pub edge-asked : (h g : ℕ) → h < 3 * T → g < 3 * T → InRange T w × ((h < 3 * T) × (g < 3 * T) × (k < 4096) × (16 * k + 16 ≤ length w) × (16 * (T + 2) ≤ length w) × (T + 2 ≤ 8192) × (64 ≤ length w))
+    pub edge-asked : (h g : ℕ) → h < 3 * T → g < 3 * T → InRange T w ×
+        ((h < 3 * T) × (g < 3 * T) × (k < 4096) × (16 * k + 16 ≤ length w) × (16 * (T + 2) ≤ length w) × (T + 2 ≤ 8192) × (64 ≤ length w))
     edge-asked h g hb gb = (in-range, (hb, gb, let f = d .figure .few in omega arith, let r = d .room in omega arith, more2, slots, let l = long in omega arith))
 
     module _ (t : ℕ) (tb : t < T) (on : ℕ) (is : on ≡ edgeAt P m (P k) t) where
@@ -262,7 +270,8 @@ module _ {ps : List ℤ} {k : ℕ} {w : List ℕ} {T : ℕ} (d : Tiled ps k w T)
             (λ y. subst (λ (b : Bool). Grown ps w (cond b (bothSides m g h k) (bothSides m h g k)) w' (T + 2) 4) (sym y)
             (subst (λ (u : List ℕ). Grown ps w (bothSides m g h k) u (T + 2) 4) (sym (e ∙ ap (λ (b : Bool). cond b (edgePushed w T g h k) (edgePushed w T h g k)) y)) (edge-grown g h gb back)))
             (λ y. subst (λ (b : Bool). Grown ps w (cond b (bothSides m g h k) (bothSides m h g k)) w' (T + 2) 4) (sym y)
-            (subst (λ (u : List ℕ). Grown ps w (bothSides m h g k) u (T + 2) 4) (sym (e ∙ ap (λ (b : Bool). cond b (edgePushed w T g h k) (edgePushed w T h g k)) y)) (edge-grown h g (edge-low nz) pair)))))
+            (subst (λ (u : List ℕ). Grown ps w (bothSides m h g k) u (T + 2) 4)
+            (sym (e ∙ ap (λ (b : Bool). cond b (edgePushed w T g h k) (edgePushed w T h g k)) y)) (edge-grown h g (edge-low nz) pair)))))
           where
             g : ℕ
             g = a - 1

@@ -92,5 +92,6 @@ module _ {m m' : Net} (a : Agrees m m') where
     count = rw (a .tris) (p .count);
     few = rw (a .tris) (p .few);
     pairs = λ i l. (let x = p .pairs i l in (x .0, back (x .1), edge-too (x .0) (x .1) (x .2), λ e. x .3 (sym (a .con (x .0) (x .1)) ∙ e)));
-    marks = λ h b c. subst (λ (u : ℕ). AmongPairs qs k u (dst m' h)) (sym (a .org h (low b))) (subst (λ (v : ℕ). AmongPairs qs k (m .org h) v) (sym (dst-is h (low b))) (p .marks h (low b) (λ e. c (a .con h (low b) ∙ e))));
+    marks = λ h b c. subst (λ (u : ℕ). AmongPairs qs k u (dst m' h)) (sym (a .org h (low b)))
+        (subst (λ (v : ℕ). AmongPairs qs k (m .org h) v) (sym (dst-is h (low b))) (p .marks h (low b) (λ e. c (a .con h (low b) ∙ e))));
   }

@@ -151,7 +151,8 @@ module _ (count : ℕ) (w : List ℕ) (m : ℕ) (p : 0 < m) (g : Suspects count 
   pub popped-suspects : Suspects count (set w (flagCell s) 0) (stack (set w (flagCell s) 0) (m - 1))
   popped-suspects =
       subst (Suspects count (set w (flagCell s) 0)) (sym popped-stack)
-      (suspects-same count w (set w (flagCell s) 0) (stack w (m - 1)) (λ u n. getD-set-other w (flagCell s) (flagCell u) 0 0 (λ e. n (subst (λ (x : ℕ). Fresh x (stack w (m - 1))) (let z : s ≡ u = omega arith in z) (parts .1)))) (parts .2))
+      (suspects-same count w (set w (flagCell s) 0) (stack w (m - 1))
+      (λ u n. getD-set-other w (flagCell s) (flagCell u) 0 0 (λ e. n (subst (λ (x : ℕ). Fresh x (stack w (m - 1))) (let z : s ≡ u = omega arith in z) (parts .1)))) (parts .2))
 
 -- ---- a search
 
@@ -159,7 +160,8 @@ pub placed-start : (w : List ℕ) (m s : ℕ) → (j : ℕ) → m ≤ j → j < 
 placed-start w m s j a b = absurd (let f : ⊥ = omega arith in f)
 
 -- one more is tried
-pub placed-down : (w : List ℕ) (m s i : ℕ) → 0 < i → ((j : ℕ) → i ≤ j → j < m → ¬ (getD w (stackCell j) 0 ≡ s)) → ¬ (getD w (stackCell (i - 1)) 0 ≡ s) → (j : ℕ) → i - 1 ≤ j → j < m → ¬ (getD w (stackCell j) 0 ≡ s)
+pub placed-down : (w : List ℕ) (m s i : ℕ) → 0 < i → ((j : ℕ) → i ≤ j → j < m → ¬ (getD w (stackCell j) 0 ≡ s)) →
+    ¬ (getD w (stackCell (i - 1)) 0 ≡ s) → (j : ℕ) → i - 1 ≤ j → j < m → ¬ (getD w (stackCell j) 0 ≡ s)
 placed-down w m s i p f n j a b = go (ℕ-discrete j (i - 1))
   where
     go : Dec (j ≡ i - 1) → ¬ (getD w (stackCell j) 0 ≡ s)
@@ -208,7 +210,8 @@ module _ (w w' : List ℕ) (s k : ℕ) (low : (j : ℕ) → j < k → getD w' (s
   unfolding stack
   at-k = stack-same w w' k low ∙ sym (leave-same s (getD w (stackCell k) 0) (stack w k) e ∙ leave-fresh s (stack w k) f)
 
-  from-k : (n : ℕ) → ((j : ℕ) → k ≤ j → j < n → getD w' (stackCell j) 0 ≡ getD w (stackCell (j + 1)) 0) → k ≤ n → ((j : ℕ) → k < j → j < suc n → ¬ (getD w (stackCell j) 0 ≡ s)) → stack w' n ≡ leave s (stack w (suc n))
+  from-k : (n : ℕ) → ((j : ℕ) → k ≤ j → j < n → getD w' (stackCell j) 0 ≡ getD w (stackCell (j + 1)) 0) → k ≤ n →
+      ((j : ℕ) → k < j → j < suc n → ¬ (getD w (stackCell j) 0 ≡ s)) → stack w' n ≡ leave s (stack w (suc n))
   unfolding stack
   from-k zero mv l n = subst (λ (x : ℕ). stack w' x ≡ leave s (stack w (suc x))) (let z : k ≡ 0 = omega arith in z) at-k
   from-k (suc i) mv l n =

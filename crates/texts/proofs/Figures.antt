@@ -104,10 +104,13 @@ module _ (text : List ℕ) (i p count : ℕ) where
     read-end l = ap (readAll c text i) (none l)
 
   module _ (xs : List ℤ) where
-    pub points-go : p < count → (m : Bool) (n e : ℕ) → taken true (nextWord text i) ≡ Taken m n e → putPoints text i p (count - p) xs ≡ putPoints text e (p + 1) (count - (p + 1)) (set xs p (signed m n))
+    pub points-go : p < count → (m : Bool) (n e : ℕ) → taken true (nextWord text i) ≡ Taken m n e →
+        putPoints text i p (count - p) xs ≡ putPoints text e (p + 1) (count - (p + 1)) (set xs p (signed m n))
     unfolding putPoints
     points-go l m n e h =
-        ap (λ (k : ℕ). putPoints text i p k xs) (left l) ∙ ap (λ (x : Step). onStep x (λ m n e. putPoints text e (suc p) (count - (p + 1)) (set xs p (signed m n))) (λ a. xs)) h ∙ ap (λ (q : ℕ). putPoints text e q (count - (p + 1)) (set xs p (signed m n))) (sym (add-one p))
+        ap (λ (k : ℕ). putPoints text i p k xs) (left l) ∙ ap
+        (λ (x : Step). onStep x (λ m n e. putPoints text e (suc p) (count - (p + 1)) (set xs p (signed m n))) (λ a. xs)) h
+        ∙ ap (λ (q : ℕ). putPoints text e q (count - (p + 1)) (set xs p (signed m n))) (sym (add-one p))
 
     pub points-stop : p < count → (a : Answer) → taken true (nextWord text i) ≡ Stop a → putPoints text i p (count - p) xs ≡ xs
     unfolding putPoints
@@ -122,7 +125,9 @@ module _ (text : List ℕ) (i p count : ℕ) where
     pub pairs-go : p < count → (m : Bool) (n e : ℕ) → taken false (nextWord text i) ≡ Taken m n e → putPairs text i p (count - p) ys ≡ putPairs text e (p + 1) (count - (p + 1)) (set ys p n)
     unfolding putPairs
     pairs-go l m n e h =
-        ap (λ (k : ℕ). putPairs text i p k ys) (left l) ∙ ap (λ (x : Step). onStep x (λ m n e. putPairs text e (suc p) (count - (p + 1)) (set ys p n)) (λ a. ys)) h ∙ ap (λ (q : ℕ). putPairs text e q (count - (p + 1)) (set ys p n)) (sym (add-one p))
+        ap (λ (k : ℕ). putPairs text i p k ys) (left l) ∙ ap
+        (λ (x : Step). onStep x (λ m n e. putPairs text e (suc p) (count - (p + 1)) (set ys p n)) (λ a. ys)) h
+        ∙ ap (λ (q : ℕ). putPairs text e q (count - (p + 1)) (set ys p n)) (sym (add-one p))
 
     pub pairs-stop : p < count → (a : Answer) → taken false (nextWord text i) ≡ Stop a → putPairs text i p (count - p) ys ≡ ys
     unfolding putPairs
@@ -152,11 +157,14 @@ module _ (text : List ℕ) (n m i : ℕ) where
     unfolding restOf
     rest-pairs l k = rw (le-ltb (length xs) (2 * n) l, lt-ltb (length ys) (2 * m) k)
 
-    room : 2 * n ≤ length xs → 2 * m ≤ length ys → (x : Progress) → readAll true text i (2 * n) ≡ x → restOf text n m i xs ys ≡ onProgress x (λ j. outcome (tailOf text n m j) (putPoints text i 0 (2 * n) xs) (putPairs text j 0 (2 * m) ys)) (λ a. outcome a (putPoints text i 0 (2 * n) xs) ys)
+    room : 2 * n ≤ length xs → 2 * m ≤ length ys → (x : Progress) → readAll true text i (2 * n) ≡ x →
+        restOf text n m i xs ys ≡ onProgress x (λ j. outcome (tailOf text n m j) (putPoints text i 0 (2 * n) xs) (putPairs text j 0 (2 * m) ys))
+        (λ a. outcome a (putPoints text i 0 (2 * n) xs) ys)
     unfolding restOf
     room l k x h = rw (le-ltb (length xs) (2 * n) l, le-ltb (length ys) (2 * m) k, h)
 
-    pub rest-done : 2 * n ≤ length xs → 2 * m ≤ length ys → (j : ℕ) → readAll true text i (2 * n) ≡ Done j → outcome (tailOf text n m j) (putPoints text i 0 (2 * n) xs) (putPairs text j 0 (2 * m) ys) ≡ restOf text n m i xs ys
+    pub rest-done : 2 * n ≤ length xs → 2 * m ≤ length ys → (j : ℕ) → readAll true text i (2 * n) ≡ Done j →
+        outcome (tailOf text n m j) (putPoints text i 0 (2 * n) xs) (putPairs text j 0 (2 * m) ys) ≡ restOf text n m i xs ys
     rest-done l k j h = sym (room l k (Done j) h)
 
     pub rest-fault : 2 * n ≤ length xs → 2 * m ≤ length ys → (a : Answer) → readAll true text i (2 * n) ≡ Fault a → outcome a (putPoints text i 0 (2 * n) xs) ys ≡ restOf text n m i xs ys
@@ -177,7 +185,8 @@ module _ (text : List ℕ) (xs : List ℤ) (ys : List ℕ) where
   pub figure-second : (b : Bool) (n i : ℕ) → taken false (nextWord text 0) ≡ Taken b n i → (a : Answer) → taken false (nextWord text i) ≡ Stop a → outcome a xs ys ≡ figureOf text xs ys
   figure-second b n i h a k = sym (one b n i h ∙ ap (λ (x : Step). onStep x (λ minus m j. restOf text n m j xs ys) (λ a. outcome a xs ys)) k)
 
-  pub figure-rest : (b : Bool) (n i : ℕ) → taken false (nextWord text 0) ≡ Taken b n i → (d : Bool) (m j : ℕ) → taken false (nextWord text i) ≡ Taken d m j → restOf text n m j xs ys ≡ figureOf text xs ys
+  pub figure-rest : (b : Bool) (n i : ℕ) → taken false (nextWord text 0) ≡ Taken b n i → (d : Bool) (m j : ℕ) →
+      taken false (nextWord text i) ≡ Taken d m j → restOf text n m j xs ys ≡ figureOf text xs ys
   figure-rest b n i h d m j k = sym (one b n i h ∙ ap (λ (x : Step). onStep x (λ minus m j. restOf text n m j xs ys) (λ a. outcome a xs ys)) k)
 
 pub same-outcome : (a a′ : Answer) (xs xs′ : List ℤ) (ys ys′ : List ℕ) → a ≡ a′ → xs ≡ xs′ → ys ≡ ys′ → outcome a xs ys ≡ outcome a′ xs′ ys′

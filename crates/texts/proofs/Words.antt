@@ -145,7 +145,9 @@ module _ (text : List ℕ) (i p v : ℕ) (r : Read text i p v) where
         low = omega arith;
         digits = ap (allDigits text i) k ∙ all-more here (p - i) (r .digits) (ap (λ (x : ℕ). isDigit (getD text x 0)) at ∙ h);
         value =
-            e ∙ ap (λ (x : ℕ). capped (10 * x + (getD text p 0 - 48))) (r .value) ∙ capped-more (valueOf text i (p - i)) (getD text p 0 - 48) ∙ sym (ap (λ (x : ℕ). capped (valueOf text i x)) s ∙ ap capped (value-more text i (p - i)) ∙ ap (λ (x : ℕ). capped (10 * valueOf text i (p - i) + (getD text x 0 - 48))) at);
+            e ∙ ap (λ (x : ℕ). capped (10 * x + (getD text p 0 - 48))) (r .value) ∙ capped-more (valueOf text i (p - i)) (getD text p 0 - 48)
+            ∙ sym (ap (λ (x : ℕ). capped (valueOf text i x)) s ∙ ap capped (value-more text i (p - i))
+            ∙ ap (λ (x : ℕ). capped (10 * valueOf text i (p - i) + (getD text x 0 - 48))) at);
       }
 
   pub read-small : v ≤ 4294967296

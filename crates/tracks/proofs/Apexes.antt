@@ -74,7 +74,8 @@ module _ (P : ℕ → Pt ℤ) (c c' : ℕ → ℕ) (d J : ℕ) (same : (x : ℕ)
         is = s;
         low = m0;
         high = m1;
-        side = left-shift i j (apex P c' i j) (omega arith) h (omega arith) ∙ ap₂ (λ (u v : ℕ). leftOf P (c u) (c v) (c (d + apex P c' i j))) (sym p) (sym q) ∙ ap (λ (u : ℕ). leftOf P (c I) (c K) (c u)) (sym s);
+        side = left-shift i j (apex P c' i j) (omega arith) h (omega arith)
+            ∙ ap₂ (λ (u v : ℕ). leftOf P (c u) (c v) (c (d + apex P c' i j))) (sym p) (sym q) ∙ ap (λ (u : ℕ). leftOf P (c I) (c K) (c u)) (sym s);
       }
 
   shift : {I K : ℕ} → NoApex P c I K → (i j : ℕ) → I ≡ d + i → K ≡ d + j → j ≤ J → NoApex P c' i j

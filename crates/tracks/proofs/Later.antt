@@ -81,7 +81,8 @@ later {n = n} (far {w = w} {l = l} {r = r} h) p q few = later-none n l r w
 later {n = n} (stop {w = w} {l = l} {r = r} h e) p q few = later-none n l r w
 later {n = n} {b = b} (last {w = w} {w′ = w′} {l = l} {r = r} {y = y} h e z) p q few =
     subst (Later n l r w) (sym z)
-    (later-then n l r l r w (leftW n w l r y b) (rightW n (leftW n w l r y b) l r y b) (omega arith) (omega arith) (later-left n l r y b w p q (omega arith)) (later-right n l r y b (leftW n w l r y b) p q (omega arith)))
+    (later-then n l r l r w (leftW n w l r y b) (rightW n (leftW n w l r y b) l r y b) (omega arith) (omega arith)
+    (later-left n l r y b w p q (omega arith)) (later-right n l r y b (leftW n w l r y b) p q (omega arith)))
 later {n = n} (left {w = w} {w′ = w′} {l = l} {r = r} {y = y} {c = c} h e d) p q few =
     later-then n l r (l + 1) r w (leftW n w l r y c) w′ (omega arith) (omega arith) (later-left n l r y c w p q (omega arith)) (later d (omega arith) q few)
 later {n = n} (right {w = w} {w′ = w′} {l = l} {r = r} {y = y} {c = c} h e d) p q few =
@@ -135,7 +136,8 @@ module _ (n : ℕ) (w : List ℕ) (a x : ℕ) (some : 3 ≤ n) (long : 64 * n �
   pub begin-left : chainOf n (beginW n w a x) 1 ≡ org w (nxt x)
   unfolding u3 u2 u1
   begin-left =
-      ap (λ (v : List ℕ). chainOf n v 1) begin-is ∙ chain-set n u3 (2 * n - 1) a 1 (let q = u3-length in omega arith) (omega arith) ∙ chain-set n u2 0 a 1 (let q = u2-length in omega arith) (omega arith) ∙
+      ap (λ (v : List ℕ). chainOf n v 1) begin-is ∙ chain-set n u3 (2 * n - 1) a 1 (let q = u3-length in omega arith) (omega arith)
+      ∙ chain-set n u2 0 a 1 (let q = u2-length in omega arith) (omega arith) ∙
       enter-chain n u1 0 x (prv x) (2 * n - 2) (2 * n - 2) (org w x) 1 (omega arith) ∙ enter-chain-is n w 0 x (nxt x) 0 1 (org w (nxt x)) (omega arith)
 
   pub begin-a' : chainOf n (beginW n w a x) (2 * n - 1) ≡ a
@@ -144,5 +146,6 @@ module _ (n : ℕ) (w : List ℕ) (a x : ℕ) (some : 3 ≤ n) (long : 64 * n �
   pub begin-right : chainOf n (beginW n w a x) (2 * n - 2) ≡ org w x
   unfolding u3 u2
   begin-right =
-      ap (λ (v : List ℕ). chainOf n v (2 * n - 2)) begin-is ∙ chain-set n u3 (2 * n - 1) a (2 * n - 2) (let q = u3-length in omega arith) (omega arith) ∙ chain-set n u2 0 a (2 * n - 2) (let q = u2-length in omega arith) (omega arith) ∙
+      ap (λ (v : List ℕ). chainOf n v (2 * n - 2)) begin-is ∙ chain-set n u3 (2 * n - 1) a (2 * n - 2) (let q = u3-length in omega arith)
+      (omega arith) ∙ chain-set n u2 0 a (2 * n - 2) (let q = u2-length in omega arith) (omega arith) ∙
       enter-chain-is n u1 0 x (prv x) (2 * n - 2) (2 * n - 2) (org w x) (let q = u1-length in omega arith)

@@ -45,7 +45,8 @@ pub record Opening (n a x : ℕ) (w0 w1 : List ℕ) (s : ℕ → Bool) : Type 0 
   pub turn0 : s 0 ≡ true
   pub turn1 : s 1 ≡ false
 
-module _ (P : ℕ → Pt ℤ) (B : Side → Pt ℤ) (kk n t a b : ℕ) (w0 : List ℕ) (tile : Tiling P B kk (netOf w0 t)) (rm : Room n t w0) (s : ℕ → Bool) (w1 : List ℕ) (x : ℕ) (lv : Leaves P (netOf w0 t) a b x) (op : Opening n a x w0 w1 s) where
+module _ (P : ℕ → Pt ℤ) (B : Side → Pt ℤ) (kk n t a b : ℕ) (w0 : List ℕ) (tile : Tiling P B kk (netOf w0 t)) (rm : Room n t w0) (s : ℕ → Bool)
+    (w1 : List ℕ) (x : ℕ) (lv : Leaves P (netOf w0 t) a b x) (op : Opening n a x w0 w1 s) where
   abbrev τ : Net
   τ = image P B (netOf w0 t)
 
@@ -172,9 +173,11 @@ module _ (P : ℕ → Pt ℤ) (B : Side → Pt ℤ) (kk n t a b : ℕ) (w0 : Lis
   unfolding beginW u1 u2
   keeps =
       keeps-chain n t w0 (slotOf n w1) 1 (set u2 (chainCell n 0) a) (2 * n - 1) a (keeps-chain n t w0 (slotOf n w1) 1 u2 0 a
-      (keeps-enter n t w0 (slotOf n w1) (small P B kk n t a b w0 tile rm s w1) (some P B kk n t a b w0 tile rm s w1) (back P B kk n t a b w0 tile rm s w1) 1 u1 0 x (prv x) (2 * n - 2) (2 * n - 2) (org w0 x) 0
+      (keeps-enter n t w0 (slotOf n w1) (small P B kk n t a b w0 tile rm s w1) (some P B kk n t a b w0 tile rm s w1)
+      (back P B kk n t a b w0 tile rm s w1) 1 u1 0 x (prv x) (2 * n - 2) (2 * n - 2) (org w0 x) 0
       (keeps-enter n t w0 (slotOf n w1) (small P B kk n t a b w0 tile rm s w1) (some P B kk n t a b w0 tile rm s w1) (back P B kk n t a b w0 tile rm s w1) 1 w0 0 x (nxt x) 0 1 (org w0 (nxt x)) 0
-      (keeps-wide n t w0 (slotOf n w1) 0 1 w0 (omega arith) (keeps-none n t w0 (slotOf n w1) (rm .long))) (let z = rm .some in omega arith) (nxt-low x t xl) (omega arith) (op .slot ∙ sym (nxt-third x)))
+      (keeps-wide n t w0 (slotOf n w1) 0 1 w0 (omega arith) (keeps-none n t w0 (slotOf n w1) (rm .long))) (let z = rm .some in omega arith)
+      (nxt-low x t xl) (omega arith) (op .slot ∙ sym (nxt-third x)))
       (let z = rm .some in omega arith) (prv-low x t xl) (omega arith) (op .slot ∙ sym (prv-third x))))
 
   -- THE FIRST STATE

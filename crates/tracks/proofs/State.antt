@@ -126,7 +126,8 @@ module _ (P : ℕ → Pt ℤ) (B : Side → Pt ℤ) (kk n t a b : ℕ) (w0 : Lis
 
       keeps-o : (k o g e c : ℕ) → o < 3 * t → o / 3 ≡ y / 3 → g < 2 * n → Keeps n t w0 (slotOf n w1) (l + r) (enterW n w k y o g e c)
       keeps-o k o g e c ol o3 gl =
-          keeps-enter n t w0 (slotOf n w1) small some back (l + r) w k y o g e c (l + r - 1) (keeps-wide n t w0 (slotOf n w1) (l + r - 1) (l + r) w (omega arith) (S .keeps)) gl ol (let p = S .some-left in omega arith) (slot ∙ sym o3)
+          keeps-enter n t w0 (slotOf n w1) small some back (l + r) w k y o g e c (l + r - 1)
+          (keeps-wide n t w0 (slotOf n w1) (l + r - 1) (l + r) w (omega arith) (S .keeps)) gl ol (let p = S .some-left in omega arith) (slot ∙ sym o3)
 
     -- ---- a step to the left
 
@@ -147,7 +148,9 @@ module _ (P : ℕ → Pt ℤ) (B : Side → Pt ℤ) (kk n t a b : ℕ) (w0 : Lis
               some-right = q;
               few = omega arith;
               low = nxt-low y t (seen .low);
-              keeps = (let e : l + r ≡ l + 1 + r - 1 = omega arith in subst (λ (K : ℕ). Keeps n t w0 (slotOf n w1) K (leftW n w l r y c)) e (keeps-o y seen slot (l + r - 1) (prv y) l (l + 1) c (prv-low y t (seen .low)) (prv-third y) (omega arith)));
+              keeps = (let e : l + r ≡ l + 1 + r - 1 = omega arith in
+                  subst (λ (K : ℕ). Keeps n t w0 (slotOf n w1) K (leftW n w l r y c)) e
+                  (keeps-o y seen slot (l + r - 1) (prv y) l (l + 1) c (prv-low y t (seen .low)) (prv-third y) (omega arith)));
               walk = walk-again (suc (l + r - 1)) (suc l) r (nxt y) (l + 1 + r - 1) (l + 1) r (modelOf n (leftW n w l r y c) (v .0)) (omega arith) one refl (v .1);
               way = subst (λ (z : ℕ). Way' z r (nxt y)) one
                   (way-left (S .way) (adj-m y seen slot) (con-m y seen slot) (new-m y seen slot) slot
@@ -176,7 +179,9 @@ module _ (P : ℕ → Pt ℤ) (B : Side → Pt ℤ) (kk n t a b : ℕ) (w0 : Lis
               some-right = omega arith;
               few = omega arith;
               low = prv-low y t (seen .low);
-              keeps = (let e : l + r ≡ l + (r + 1) - 1 = omega arith in subst (λ (K : ℕ). Keeps n t w0 (slotOf n w1) K (rightW n w l r y c)) e (keeps-o y seen slot (l + r - 1) (nxt y) (2 * n - 2 - r) (2 * n - 2 - r) c (nxt-low y t (seen .low)) (nxt-third y) (omega arith)));
+              keeps = (let e : l + r ≡ l + (r + 1) - 1 = omega arith in
+                  subst (λ (K : ℕ). Keeps n t w0 (slotOf n w1) K (rightW n w l r y c)) e
+                  (keeps-o y seen slot (l + r - 1) (nxt y) (2 * n - 2 - r) (2 * n - 2 - r) c (nxt-low y t (seen .low)) (nxt-third y) (omega arith)));
               walk = walk-again (suc (l + r - 1)) l (suc r) (prv y) (l + (r + 1) - 1) l (r + 1) (modelOf n (rightW n w l r y c) (v .0)) (omega arith) refl one (v .1);
               way = subst (λ (z : ℕ). Way' l z (prv y)) one
                   (way-right (S .way) (adj-m y seen slot) (con-m y seen slot) (new-m y seen slot) slot

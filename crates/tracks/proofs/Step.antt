@@ -36,15 +36,18 @@ unfolding modelOf
 model-live n w G h e = e
 
 -- an entry parks half-edge o at 6 n + g
-pub park-net : (W : World) (n : ℕ) (w : List ℕ) (G : Ghost) (k y o g e c : ℕ) → W .bound ≤ 12 * n → 64 * n ≤ length w → Inv W (modelOf n w G) → Live (modelOf n w G) o → Dead (modelOf n w G) (6 * n + g) → g < 2 * n →
+pub park-net : (W : World) (n : ℕ) (w : List ℕ) (G : Ghost) (k y o g e c : ℕ) → W .bound ≤ 12 * n → 64 * n ≤ length w → Inv W (modelOf n w G) →
+    Live (modelOf n w G) o → Dead (modelOf n w G) (6 * n + g) → g < 2 * n →
     ¬ (modelOf n w G .org o ≡ modelOf n w G .dst o) → Parked (modelOf n w G) (modelOf n (enterW n w k y o g e c) (parkG n w G o (6 * n + g))) o (6 * n + g)
 park-net W n w G k y o g e c bound long inv lo dv gl proper =
     let fits = adj-fits W n w G inv o (model-live n w G o lo) in
     subst (λ (τ : Net). Parked (modelOf n w G) τ o (6 * n + g))
     (sym (model-enter n w k y o g e c long (omega arith) (omega arith) (λ z q. adj-back W n w G inv o (model-live n w G o lo) z q) G)) (parks W (modelOf n w G) o (6 * n + g) inv lo dv proper)
 
-module _ (W : World) (Ccw : ℕ → ℕ → ℕ → Type 0) (F : Figure) (t cap : ℕ) (σ : Net) (til : Tiled W Ccw (F .vt) t cap σ) (solid : (h : ℕ) → h < 3 * t → ¬ (σ .org h ≡ σ .dst h)) (n : ℕ) (bound : W .bound ≤ 12 * n) where
-  module _ (k l r x : ℕ) (w : List ℕ) (G : Ghost) (long : 64 * n ≤ length w) (walk : Walk F t k l r x σ (modelOf n w G)) (fits : suc k < cap) (y : ℕ) (seen : Seen t w x y) (slot : F .slot k ≡ y / 3) where
+module _ (W : World) (Ccw : ℕ → ℕ → ℕ → Type 0) (F : Figure) (t cap : ℕ) (σ : Net) (til : Tiled W Ccw (F .vt) t cap σ)
+    (solid : (h : ℕ) → h < 3 * t → ¬ (σ .org h ≡ σ .dst h)) (n : ℕ) (bound : W .bound ≤ 12 * n) where
+  module _ (k l r x : ℕ) (w : List ℕ) (G : Ghost) (long : 64 * n ≤ length w) (walk : Walk F t k l r x σ (modelOf n w G)) (fits : suc k < cap) (y : ℕ)
+      (seen : Seen t w x y) (slot : F .slot k ≡ y / 3) where
     abbrev σ1 : Net
     σ1 = modelOf n w G
 
@@ -84,7 +87,8 @@ module _ (W : World) (Ccw : ℕ → ℕ → ℕ → Type 0) (F : Figure) (t cap 
     σ2 = modelOf n w G2
 
     not-mate : ¬ (x ≡ σ1 .mate x)
-    not-mate q = open' W Ccw F t cap σ til k l r x (nxt y) (prv y) σ1 st fits has plain three low (sym (pair W Ccw F t cap σ til k l r x (nxt y) (prv y) σ1 st fits has plain three low .dst) ∙ ap (σ1 .dst) (sym q))
+    not-mate q = open' W Ccw F t cap σ til k l r x (nxt y) (prv y) σ1 st fits has plain three low
+        (sym (pair W Ccw F t cap σ til k l r x (nxt y) (prv y) σ1 st fits has plain three low .dst) ∙ ap (σ1 .dst) (sym q))
 
     drop : Dropped σ1 σ2 x (σ1 .mate x)
     unfolding σ2 G2
@@ -104,7 +108,8 @@ module _ (W : World) (Ccw : ℕ → ℕ → ℕ → Type 0) (F : Figure) (t cap 
     lo : (o : ℕ) → In (F .slot k) o → ¬ (o ≡ σ1 .mate x) → Live σ2 o
     lo o oi om =
         drop .live o (λ q. in-new W Ccw F t cap σ til k l r x (nxt y) (prv y) σ1 st fits has plain three low o oi (subst (Slots (F .slot) 0 k) (sym q) (st .core .exit-in))) om ∙
-        st .core .live o (in-new W Ccw F t cap σ til k l r x (nxt y) (prv y) σ1 st fits has plain three low o oi) (in-gap W Ccw F t cap σ til k l r x (nxt y) (prv y) σ1 st fits has plain three low o oi) ∙ was o oi
+        st .core .live o (in-new W Ccw F t cap σ til k l r x (nxt y) (prv y) σ1 st fits has plain three low o oi)
+        (in-gap W Ccw F t cap σ til k l r x (nxt y) (prv y) σ1 st fits has plain three low o oi) ∙ was o oi
 
     -- a place that no gap has yet is dead
     dead : (v : ℕ) → Dead σ v → ¬ Gaps (F .vt) 0 (suc k) v → Dead σ2 v
@@ -172,7 +177,8 @@ module _ (W : World) (Ccw : ℕ → ℕ → ℕ → Type 0) (F : Figure) (t cap 
 
       dv' : Dead σ3 (F .vt (suc (suc k)))
       dv' =
-          p1 .live (F .vt (suc (suc k))) (λ q. not-same σ (prv y) (F .vt (suc (suc k))) (was (prv y) (parts three .in-g)) v-dead' (sym q)) (λ q. let z = til .apart (suc (suc k)) (suc k) fits' fits q in omega arith) ∙
+          p1 .live (F .vt (suc (suc k))) (λ q. not-same σ (prv y) (F .vt (suc (suc k))) (was (prv y) (parts three .in-g)) v-dead' (sym q))
+          (λ q. let z = til .apart (suc (suc k)) (suc k) fits' fits q in omega arith) ∙
           dead (F .vt (suc (suc k))) v-dead' fresh'
 
       proper' : ¬ (σ3 .org (nxt y) ≡ σ3 .dst (nxt y))
@@ -201,14 +207,16 @@ module _ (W : World) (Ccw : ℕ → ℕ → ℕ → Type 0) (F : Figure) (t cap 
     org-is h q = simp (lt-ltb h (6 * n) q)
 
     -- A STEP OF THE CODE IS A STEP OF THE MODEL
-    pub step-left : (small : t ≤ 2 * n) (e c : ℕ) → org w (prv y) ≡ F .cl (suc l) → F .Left (F .cl (suc l)) → F .gl l ≡ F .vt (suc k) → (g : ℕ) → F .vt (suc k) ≡ 6 * n + g → g < 2 * n → Stepped (suc l) r (nxt y) (enterW n w k y (prv y) g e c)
+    pub step-left : (small : t ≤ 2 * n) (e c : ℕ) → org w (prv y) ≡ F .cl (suc l) → F .Left (F .cl (suc l)) → F .gl l ≡ F .vt (suc k) → (g : ℕ) →
+        F .vt (suc k) ≡ 6 * n + g → g < 2 * n → Stepped (suc l) r (nxt y) (enterW n w k y (prv y) g e c)
     step-left small e c o isl gp g at gl =
         let q = prv-low y t (seen .low) in (
           G3 (prv y) g e c (parts three .in-g) gm gl at,
           left walk has plain three low (org-is (prv y) (omega arith) ∙ o) isl gp drop (park (prv y) g e c (parts three .in-g) gm gl at),
         )
 
-    pub step-right : (small : t ≤ 2 * n) (e c : ℕ) → org w (prv y) ≡ F .cr (suc r) → F .Right (F .cr (suc r)) → F .gr r ≡ F .vt (suc k) → (g : ℕ) → F .vt (suc k) ≡ 6 * n + g → g < 2 * n → Stepped l (suc r) (prv y) (enterW n w k y (nxt y) g e c)
+    pub step-right : (small : t ≤ 2 * n) (e c : ℕ) → org w (prv y) ≡ F .cr (suc r) → F .Right (F .cr (suc r)) → F .gr r ≡ F .vt (suc k) → (g : ℕ) →
+        F .vt (suc k) ≡ 6 * n + g → g < 2 * n → Stepped l (suc r) (prv y) (enterW n w k y (nxt y) g e c)
     step-right small e c o isr gp g at gl =
         let q = prv-low y t (seen .low) in (
           G3 (nxt y) g e c (parts three .in-f) fm gl at,
@@ -221,7 +229,8 @@ module _ (W : World) (Ccw : ℕ → ℕ → ℕ → Type 0) (F : Figure) (t cap 
       pub σ3 : Net
       pub arrive : Arrive F t k l r x (nxt y) (prv y) σ1 σ2 σ3 (modelOf n w' ghost)
 
-    pub arrives : (small : t ≤ 2 * n) (e e' b : ℕ) → org w (prv y) ≡ b → b ≡ F .cl (suc l) → b ≡ F .cr (suc r) → F .gl l ≡ F .vt (suc k) → F .gr r ≡ F .vt (suc (suc k)) → (g g' : ℕ) → g < 2 * n → g' < 2 * n →
+    pub arrives : (small : t ≤ 2 * n) (e e' b : ℕ) → org w (prv y) ≡ b → b ≡ F .cl (suc l) → b ≡ F .cr (suc r) → F .gl l ≡ F .vt (suc k) →
+        F .gr r ≡ F .vt (suc (suc k)) → (g g' : ℕ) → g < 2 * n → g' < 2 * n →
         F .vt (suc k) ≡ 6 * n + g → F .vt (suc (suc k)) ≡ 6 * n + g' → suc (suc k) < cap → Comes (enterW n (enterW n w k y (prv y) g e b) k y (nxt y) g' e' b)
     unfolding w3
     arrives small e e' b o cl cr gpl gpr g g' gl gl' at at' fits' =

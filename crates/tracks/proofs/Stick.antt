@@ -61,7 +61,8 @@ all-met f k t s low apart l many = go (search f k s)
         let n = pigeon t (suc k) (λ i. pick (decLt i k) (f i) s) (λ i h. g-low i (decLt i k) h) (λ i j h m z. g-apart q i j (decLt i k) (decLt j k) h m z) in
         absurd (let z : suc k ≤ t → ⊥ = omega arith in z n)
 
-module _ (P : ℕ → Pt ℤ) (B : Side → Pt ℤ) (kk n t a b : ℕ) (w0 : List ℕ) (tile : Tiling P B kk (netOf w0 t)) (rm : Room n t w0) (s : ℕ → Bool) (w1 : List ℕ) (l r x : ℕ) (w : List ℕ) (G : Ghost) (S : State P B kk n t a b w0 tile rm s w1 l r x w G) where
+module _ (P : ℕ → Pt ℤ) (B : Side → Pt ℤ) (kk n t a b : ℕ) (w0 : List ℕ) (tile : Tiling P B kk (netOf w0 t)) (rm : Room n t w0) (s : ℕ → Bool)
+    (w1 : List ℕ) (l r x : ℕ) (w : List ℕ) (G : Ghost) (S : State P B kk n t a b w0 tile rm s w1 l r x w G) where
   abbrev Bar : Type 0
   Bar = Bars P (netOf w0 t) a b (slotOf n w1) (chainOf n w1) (λ z. chainOf n w1 (2 * n - 1 - z)) l r x
 
@@ -92,7 +93,8 @@ module _ (P : ℕ → Pt ℤ) (B : Side → Pt ℤ) (kk n t a b : ℕ) (w0 : Lis
   bar OnLine k =
       let y = k .0 in
       let c = S .keeps .corner (prv y) in
-      on-line y (seen-mate n t w0 (slotOf n w1) (small P B kk n t a b w0 tile rm s w1) (some P B kk n t a b w0 tile rm s w1) (back P B kk n t a b w0 tile rm s w1) (l + r - 1) w x y (S .keeps) (S .low) (k .1))
+      on-line y (seen-mate n t w0 (slotOf n w1) (small P B kk n t a b w0 tile rm s w1) (some P B kk n t a b w0 tile rm s w1)
+      (back P B kk n t a b w0 tile rm s w1) (l + r - 1) w x y (S .keeps) (S .low) (k .1))
       (λ e. k .2 (c ∙ e)) (ap (λ (u : ℕ). orient (P a) (P b) (P u)) (sym c) ∙ k .3)
   bar Apex k = absurd k
 

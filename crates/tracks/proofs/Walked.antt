@@ -63,7 +63,8 @@ module _ (P : ℕ → Pt ℤ) (B : Side → Pt ℤ) (kk n t a b : ℕ) (w0 : Lis
   Got (Arrived l r) = Met l r
   Got (Stays e) = Sticks P (netOf w0 t) a b
 
-  go-left : (l r x : ℕ) (w w' : List ℕ) (y c : ℕ) (out : Walking) → Walks P n t a b (leftW n w l r y c) (l + 1) r (nxt y) out w' → w' ≡ w1 → l + r ≤ t → lookAt P t a b w x ≡ Left y c → s (l + r) ≡ true → (Stands (l + 1) r (nxt y) (leftW n w l r y c) → Got out) → Stands l r x w → Got out
+  go-left : (l r x : ℕ) (w w' : List ℕ) (y c : ℕ) (out : Walking) → Walks P n t a b (leftW n w l r y c) (l + 1) r (nxt y) out w' → w' ≡ w1 →
+      l + r ≤ t → lookAt P t a b w x ≡ Left y c → s (l + r) ≡ true → (Stands (l + 1) r (nxt y) (leftW n w l r y c) → Got out) → Stands l r x w → Got out
   go-left l r x w w' y c out d e h look turn f st =
       let S = st .1 in
       let p = S .some-left in let q = S .some-right in
@@ -74,7 +75,8 @@ module _ (P : ℕ → Pt ℤ) (B : Side → Pt ℤ) (kk n t a b : ℕ) (w0 : Lis
       (ap (λ (v : List ℕ). slotOf n v (l + r - 1)) (sym e) ∙ lt .slot (l + r - 1) (omega arith) ∙ enter-slot-is n w (l + r - 1) y (prv y) l (l + 1) c (omega arith))
       (ap (λ (v : List ℕ). chainOf n v (l + 1)) (sym e) ∙ lt .on-left (l + 1) (omega arith) ∙ enter-chain-is n w (l + r - 1) y (prv y) l (l + 1) c (omega arith)) turn)
 
-  go-right : (l r x : ℕ) (w w' : List ℕ) (y c : ℕ) (out : Walking) → Walks P n t a b (rightW n w l r y c) l (r + 1) (prv y) out w' → w' ≡ w1 → l + r ≤ t → lookAt P t a b w x ≡ Right y c → s (l + r) ≡ false → (Stands l (r + 1) (prv y) (rightW n w l r y c) → Got out) → Stands l r x w → Got out
+  go-right : (l r x : ℕ) (w w' : List ℕ) (y c : ℕ) (out : Walking) → Walks P n t a b (rightW n w l r y c) l (r + 1) (prv y) out w' → w' ≡ w1 →
+      l + r ≤ t → lookAt P t a b w x ≡ Right y c → s (l + r) ≡ false → (Stands l (r + 1) (prv y) (rightW n w l r y c) → Got out) → Stands l r x w → Got out
   go-right l r x w w' y c out d e h look turn f st =
       let S = st .1 in
       let p = S .some-left in let q = S .some-right in
@@ -84,7 +86,9 @@ module _ (P : ℕ → Pt ℤ) (B : Side → Pt ℤ) (kk n t a b : ℕ) (w0 : Lis
       let z : 2 * n - 2 - r ≡ 2 * n - 1 - (r + 1) = omega arith in
       f (state-right P B kk n t a b w0 tile rm s w1 l r x w (st .0) S h y c look
       (ap (λ (v : List ℕ). slotOf n v (l + r - 1)) (sym e) ∙ lt .slot (l + r - 1) (omega arith) ∙ enter-slot-is n w (l + r - 1) y (nxt y) (2 * n - 2 - r) (2 * n - 2 - r) c (omega arith))
-      (ap (λ (v : List ℕ). chainOf n v (2 * n - 2 - r)) (sym e) ∙ subst (λ (u : ℕ). chainOf n w' u ≡ chainOf n (rightW n w l r y c) u) (sym z) (lt .on-right (r + 1) (omega arith)) ∙ enter-chain-is n w (l + r - 1) y (nxt y) (2 * n - 2 - r) (2 * n - 2 - r) c (omega arith)) turn)
+      (ap (λ (v : List ℕ). chainOf n v (2 * n - 2 - r)) (sym e)
+      ∙ subst (λ (u : ℕ). chainOf n w' u ≡ chainOf n (rightW n w l r y c) u) (sym z) (lt .on-right (r + 1) (omega arith))
+      ∙ enter-chain-is n w (l + r - 1) y (nxt y) (2 * n - 2 - r) (2 * n - 2 - r) c (omega arith)) turn)
 
   at-once : (k : ℕ) (u v : Bool) → cond (eqb k k) u v ≡ u
   at-once k u v = ap (λ (z : Bool). cond z u v) (eqb-yes k k refl)
@@ -110,9 +114,11 @@ module _ (P : ℕ → Pt ℤ) (B : Side → Pt ℤ) (kk n t a b : ℕ) (w0 : Lis
     turn' = f (l + r + 1) (omega arith) ∙ eqb-no (l + r + 1) (l + r) (omega arith);
   }
   go (left {w = w} {w′ = w′} {l = l} {r = r} {x = x} {y = y} {c = c} {out = out} h k d) e f st =
-      go-left l r x w w′ y c out d e h k (f (l + r) (omega arith) ∙ at-once (l + r) true (sides d (l + r))) (λ u. go d e (λ j q. f j (omega arith) ∙ later-on j (l + r) true (sides d j) (omega arith)) u) st
+      go-left l r x w w′ y c out d e h k (f (l + r) (omega arith) ∙ at-once (l + r) true (sides d (l + r)))
+      (λ u. go d e (λ j q. f j (omega arith) ∙ later-on j (l + r) true (sides d j) (omega arith)) u) st
   go (right {w = w} {w′ = w′} {l = l} {r = r} {x = x} {y = y} {c = c} {out = out} h k d) e f st =
-      go-right l r x w w′ y c out d e h k (f (l + r) (omega arith) ∙ at-once (l + r) false (sides d (l + r))) (λ u. go d e (λ j q. f j (omega arith) ∙ later-on j (l + r) false (sides d j) (omega arith)) u) st
+      go-right l r x w w′ y c out d e h k (f (l + r) (omega arith) ∙ at-once (l + r) false (sides d (l + r)))
+      (λ u. go d e (λ j q. f j (omega arith) ∙ later-on j (l + r) false (sides d j) (omega arith)) u) st
 
   -- ---- b is met
 
@@ -190,7 +196,8 @@ module _ (P : ℕ → Pt ℤ) (B : Side → Pt ℤ) (kk n t a b : ℕ) (w0 : Lis
             let h = rm .less in let u = few in
             let e : 2 * n - 2 - r ≡ 2 * n - 2 - r + 0 = omega arith in
             let g : 2 * n - 1 ≡ 2 * n - 2 - r + suc r = omega arith in
-            inr (no-apex-shift P (chainOf n w1) (λ z. chainOf n w1 (2 * n - 1 - (suc r - z))) (2 * n - 2 - r) (suc r) (λ z q. let v : 2 * n - 1 - (suc r - z) ≡ 2 * n - 2 - r + z = omega arith in ap (chainOf n w1) v) 0 (suc r) (omega arith)
+            inr (no-apex-shift P (chainOf n w1) (λ z. chainOf n w1 (2 * n - 1 - (suc r - z))) (2 * n - 2 - r) (suc r)
+            (λ z q. let v : 2 * n - 1 - (suc r - z) ≡ 2 * n - 2 - r + z = omega arith in ap (chainOf n w1) v) 0 (suc r) (omega arith)
             (subst (λ (i : ℕ). NoApex P (chainOf n w1) i (2 * n - 2 - r + suc r)) e (subst (NoApex P (chainOf n w1) (2 * n - 2 - r)) g f)))
 
     -- ---- it is the model's walk
@@ -233,11 +240,14 @@ module _ (P : ℕ → Pt ℤ) (B : Side → Pt ℤ) (kk n t a b : ℕ) (w0 : Lis
           let al = at-left P B kk n t a b w0 tile rm s w1 l r (met .x) (met .w) (met .ghost) S few (met .turn) in
           let v = arrives (W P B kk n t a b w0 tile rm s w1) (CcwP P) (F P B kk n t a b w0 tile rm s w1) t (t + 3) (σ P B kk n t a b w0 tile rm s w1) tl
           (solid P B kk n t a b w0 tile rm s w1) n (bound P B kk n t a b w0 tile rm s w1) (l + r - 1) l r (met .x) (met .w) (met .ghost) (S .keeps .long) (S .walk) ft (met .y) (sn .0) slot
-          (small P B kk n t a b w0 tile rm s w1) (l + 1) (2 * n - 2 - r) b (sn .1) (sym left-to) (sym right-to') (sym al) (sym at-last) l (2 * n - 2 - r) (omega arith) (omega arith) al at-last fits' in
+          (small P B kk n t a b w0 tile rm s w1) (l + 1) (2 * n - 2 - r) b (sn .1) (sym left-to) (sym right-to') (sym al) (sym at-last) l
+          (2 * n - 2 - r) (omega arith) (omega arith) al at-last fits' in
           let ar : Arrive (F P B kk n t a b w0 tile rm s w1) t (l + r - 1) l r (met .x) (nxt (met .y)) (prv (met .y)) (modelOf n (met .w) (met .ghost)) (v .σ2) (v .σ3) (modelOf n w1 (v .ghost)) =
-          subst (λ (z : List ℕ). Arrive (F P B kk n t a b w0 tile rm s w1) t (l + r - 1) l r (met .x) (nxt (met .y)) (prv (met .y)) (modelOf n (met .w) (met .ghost)) (v .σ2) (v .σ3) (modelOf n z (v .ghost))) (sym is) (v .arrive) in
+          subst (λ (z : List ℕ). Arrive (F P B kk n t a b w0 tile rm s w1) t (l + r - 1) l r (met .x) (nxt (met .y)) (prv (met .y))
+          (modelOf n (met .w) (met .ghost)) (v .σ2) (v .σ3) (modelOf n z (v .ghost))) (sym is) (v .arrive) in
           let st = strip P B kk n t a b w0 tile rm s w1 l r (met .x) (met .w) (met .ghost) S few in
-          let op' = arrive (W P B kk n t a b w0 tile rm s w1) (CcwP P) (F P B kk n t a b w0 tile rm s w1) t (t + 3) (σ P B kk n t a b w0 tile rm s w1) tl (l + r - 1) l r (met .x) (nxt (met .y)) (prv (met .y))
+          let op' = arrive (W P B kk n t a b w0 tile rm s w1) (CcwP P) (F P B kk n t a b w0 tile rm s w1) t (t + 3) (σ P B kk n t a b w0 tile rm s w1)
+          tl (l + r - 1) l r (met .x) (nxt (met .y)) (prv (met .y))
           (modelOf n (met .w) (met .ghost)) (v .σ2) (v .σ3) (modelOf n w1 (v .ghost)) st fits' ar in
           record {
             apart = λ p u v. not-both u v;
@@ -266,7 +276,8 @@ module _ (P : ℕ → Pt ℤ) (B : Side → Pt ℤ) (kk n t a b : ℕ) (w0 : Lis
 
 -- ---- from the first triangle on
 
-module _ (P : ℕ → Pt ℤ) (B : Side → Pt ℤ) (kk n t a b : ℕ) (w0 : List ℕ) (x : ℕ) (out : Walking) (w1 : List ℕ) (tile : Tiling P B kk (netOf w0 t)) (rm : Room n t w0) (lv : Leaves P (netOf w0 t) a b x) (d : Walks P n t a b (beginW n w0 a x) 1 1 x out w1) where
+module _ (P : ℕ → Pt ℤ) (B : Side → Pt ℤ) (kk n t a b : ℕ) (w0 : List ℕ) (x : ℕ) (out : Walking) (w1 : List ℕ) (tile : Tiling P B kk (netOf w0 t))
+    (rm : Room n t w0) (lv : Leaves P (netOf w0 t) a b x) (d : Walks P n t a b (beginW n w0 a x) 1 1 x out w1) where
   abbrev s : ℕ → Bool
   s = turns (sides d)
 

@@ -56,7 +56,11 @@ below-yes rk u v p q t = by-bool (ltb (min (rk u) (rk v)) (min (rk p) (rk q))) (
 below-no : (rk : ℕ → ℕ) (u v p q : ℕ) → pairBelow (rk u) (rk v) (rk p) (rk q) ≡ false → ¬ Lower rk u v p q
 below-no rk u v p q f (by-first l) = let z : true ≡ false = rw (lt-ltb (min (rk u) (rk v)) (min (rk p) (rk q)) l) at f in let y : _≡_ {A = ℕ} 0 1 = cc in omega arith
 below-no rk u v p q f (by-second e l) =
-    let z : true ≡ false = rw (le-ltb (min (rk u) (rk v)) (min (rk p) (rk q)) (let k : min (rk p) (rk q) ≤ min (rk u) (rk v) = omega arith in k), eq-eqb (min (rk u) (rk v)) (min (rk p) (rk q)) e, lt-ltb (max (rk u) (rk v)) (max (rk p) (rk q)) l) at f in
+    let z : true ≡ false = rw (
+      le-ltb (min (rk u) (rk v)) (min (rk p) (rk q)) (let k : min (rk p) (rk q) ≤ min (rk u) (rk v) = omega arith in k),
+      eq-eqb (min (rk u) (rk v)) (min (rk p) (rk q)) e,
+      lt-ltb (max (rk u) (rk v)) (max (rk p) (rk q)) l,
+    ) at f in
     let y : _≡_ {A = ℕ} 0 1 = cc in omega arith
 
 -- the code compares the smaller ones for equality first
@@ -278,7 +282,8 @@ module _ {ps : List ℤ} {count : ℕ} {w : List ℕ} {t e o p a b c d : ℕ} (v
     pub seen-outside : s ≡ variants.Neg → Tried (point ps) (rank ps) (netOf w count) (3 * t + e) false
     seen-outside = outside ps count w (v .figure) (v .ready) t e (v .t-low) (v .e-low) (v .mark) (v .free) (v .partner) (v .paired) (v .first) (v .second) (v .third) (v .far) i
 
-    pub seen-tied : s ≡ variants.Zero → {r : Bool} → r ≡ pairBelow (getD w (rankCell c) 0) (getD w (rankCell d) 0) (getD w (rankCell a) 0) (getD w (rankCell b) 0) → Tried (point ps) (rank ps) (netOf w count) (3 * t + e) r
+    pub seen-tied : s ≡ variants.Zero → {r : Bool} → r ≡ pairBelow (getD w (rankCell c) 0) (getD w (rankCell d) 0) (getD w (rankCell a) 0)
+        (getD w (rankCell b) 0) → Tried (point ps) (rank ps) (netOf w count) (3 * t + e) r
     seen-tied k j = on-circle ps count w (v .figure) (v .ready) t e (v .t-low) (v .e-low) (v .mark) (v .free) (v .partner) (v .paired) (v .first) (v .second) (v .third) (v .far) i k j
 
 -- ---- the three edges of a slot

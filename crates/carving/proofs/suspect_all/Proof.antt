@@ -42,7 +42,8 @@ push-requires c κs =
     let kt = p .1 in
     let m : c .before .before .before .before .loop .m < s .k = c .before .before .before .loop-test .taken in
     let v = p .0 .slots (c .before .before .before .before .loop .m) (omega arith) in
-    let q : c .before .slot .result ≡ slotOf (s .n) (s .work .now) (c .before .before .before .before .loop .m) = c .before .slot .ensures ∙ aside-slot (p .0) (o .1 .aside) (c .before .before .before .before .loop .m) in
+    let q : c .before .slot .result ≡ slotOf (s .n) (s .work .now) (c .before .before .before .before .loop .m) = c .before .slot .ensures
+    ∙ aside-slot (p .0) (o .1 .aside) (c .before .before .before .before .loop .m) in
     (omega arith, omega arith, omega arith, omega arith)
 
 add-m : tie.Need-add-m Inv-loop μ-loop

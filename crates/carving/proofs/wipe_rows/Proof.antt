@@ -53,8 +53,12 @@ loop-again c =
     let p = c .before .before .before .before .before .before .before .pre in
     let o = c .before .before .before .before .before .loop .inv in
     let a = o .0 in
-    let m : c .before .before .before .before .before .loop .s < s .b = c .before .before .before .before .loop-test .taken in
-    (omega arith, omega arith, rows-more (s .a) (s .lo) (s .hi) (c .before .before .before .before .before .loop .s) (s .work .now) (c .before .before .before .before .before .loop .work) _ a (p .4) (o .2) (c .before .before .wipe .ensures))
+    let m : c .before .before .before .before .before .loop .s < s .b = c .before .before .before .before .loop-test .taken in (
+      omega arith,
+      omega arith,
+      rows-more (s .a) (s .lo) (s .hi) (c .before .before .before .before .before .loop .s) (s .work .now)
+          (c .before .before .before .before .before .loop .work) _ a (p .4) (o .2) (c .before .before .wipe .ensures),
+    )
 
 same-length : tie.Need-same-length Inv-loop μ-loop
 same-length c = c .before .loop .inv .2 .len

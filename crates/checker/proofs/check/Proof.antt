@@ -85,8 +85,17 @@ judge-requires : tie.Need-judge-requires
 judge-requires c κs =
     let t = c .before in
     let s' = s (b t) in
-    let z = cleared-size (64 * n (b t)) (s' .args .work .now) (w1 (b t)) (clear1 t) in
-    (record { near = coordinates (quiet t); least = points-least (quiet t); most = points-most (quiet t); whole = whole-of (length (s' .args .list .now) % 3) (not-odd (quiet t)); room = (let a = room t in omega arith) }, cleared-zeros (64 * n (b t)) (s' .args .work .now) (w1 (b t)) (clear1 t), ends-of (n (b t)) (s' .args .pairs .now) (pairs-length (quiet t)) (end-a (quiet t)) (end-b (quiet t)))
+    let z = cleared-size (64 * n (b t)) (s' .args .work .now) (w1 (b t)) (clear1 t) in (
+      record {
+        near = coordinates (quiet t);
+        least = points-least (quiet t);
+        most = points-most (quiet t);
+        whole = whole-of (length (s' .args .list .now) % 3) (not-odd (quiet t));
+        room = (let a = room t in omega arith);
+      },
+      cleared-zeros (64 * n (b t)) (s' .args .work .now) (w1 (b t)) (clear1 t),
+      ends-of (n (b t)) (s' .args .pairs .now) (pairs-length (quiet t)) (end-a (quiet t)) (end-b (quiet t)),
+    )
 
 -- after the rules
 module _ (c : tie.After-judge) where
@@ -96,7 +105,8 @@ module _ (c : tie.After-judge) where
   used : length (c .judge .last .1 .1 .1 .0) ≡ length (s (b t) .args .work .now)
   used = c .judge .ensures .1 .size ∙ cleared-size (64 * n (b t)) (s (b t) .args .work .now) (w1 (b t)) (clear1 t)
 
-  found : verdict (s (b t) .args .points .now) (s (b t) .args .pairs .now) (s (b t) .args .list .now) (length (s (b t) .args .work .now)) ≡ rules (s (b t) .args .points .now) (s (b t) .args .pairs .now) (s (b t) .args .list .now)
+  found : verdict (s (b t) .args .points .now) (s (b t) .args .pairs .now) (s (b t) .args .list .now) (length (s (b t) .args .work .now)) ≡ rules
+      (s (b t) .args .points .now) (s (b t) .args .pairs .now) (s (b t) .args .list .now)
   found = verdict-rules (s (b t) .args .points .now) (s (b t) .args .pairs .now) (s (b t) .args .list .now) (length (s (b t) .args .work .now)) (none t ∙ same (b t))
 
 mul-clear : tie.Need-mul-clear
@@ -109,8 +119,13 @@ returns-2 : tie.Need-returns-2
 returns-2 c =
     let l = c .before .before in
     let j = l .before .before .before .before in
-    let s' = s (b (t j)) in
-    (j .judge .ensures .0 ∙ sym (found j), cleared-thrice (64 * n (b (t j))) (s' .args .work .now) (w1 (b (t j))) (j .judge .last .1 .1 .1 .0) (l .clear .last .0) (clear1 (t j)) (j .judge .ensures .1) (l .clear .ensures) ∙ sym (rules-leave (s' .args .points .now) (s' .args .pairs .now) (s' .args .list .now) (n (b (t j))) (s' .args .work .now)) ∙ ap (λ (p : Paper). leftWork p (n (b (t j))) (s' .args .work .now)) (sym (found j)))
+    let s' = s (b (t j)) in (
+      j .judge .ensures .0 ∙ sym (found j),
+      cleared-thrice (64 * n (b (t j))) (s' .args .work .now) (w1 (b (t j))) (j .judge .last .1 .1 .1 .0)
+          (l .clear .last .0) (clear1 (t j)) (j .judge .ensures .1) (l .clear .ensures)
+          ∙ sym (rules-leave (s' .args .points .now) (s' .args .pairs .now) (s' .args .list .now) (n (b (t j))) (s' .args .work .now))
+          ∙ ap (λ (p : Paper). leftWork p (n (b (t j))) (s' .args .work .now)) (sym (found j)),
+    )
 
 pub check-spec : {M : Type 1} → statement M
 check-spec =

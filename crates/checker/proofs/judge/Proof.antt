@@ -25,11 +25,18 @@ module _ (c : tie.After-shape) where
   rest : Rest (64 * n) (s .args .work .now) (c .shape .last .1 .1 .0)
   rest = record { size = c .shape .ensures .size; same = λ p l. c .shape .ensures .rest p (omega arith) }
 
-  whole : rules (s .args .points .now) (s .args .pairs .now) (s .args .list .now) ≡ andThen (rules12 (s .args .points .now) (s .args .list .now)) (andThen (rules345 (s .args .points .now) (s .args .list .now)) (rules678 (s .args .points .now) (s .args .pairs .now) (s .args .list .now)))
+  whole : rules (s .args .points .now) (s .args .pairs .now) (s .args .list .now) ≡ andThen (rules12 (s .args .points .now) (s .args .list .now))
+      (andThen (rules345 (s .args .points .now) (s .args .list .now)) (rules678 (s .args .points .now) (s .args .pairs .now) (s .args .list .now)))
   whole = in-parts (s .args .points .now) (s .args .pairs .now) (s .args .list .now)
 
   sound : Sound (s .args .points .now) (s .args .list .now) (c .shape .last .1 .1 .0)
-  sound = record { near = s .pre .0 .near; least = s .pre .0 .least; most = s .pre .0 .most; whole = s .pre .0 .whole; room = let r = s .pre .0 .room in let z = c .shape .ensures .size in omega arith }
+  sound = record {
+    near = s .pre .0 .near;
+    least = s .pre .0 .least;
+    most = s .pre .0 .most;
+    whole = s .pre .0 .whole;
+    room = let r = s .pre .0 .room in let z = c .shape .ensures .size in omega arith;
+  }
 
 returns : tie.Need-returns
 returns c =
@@ -43,7 +50,8 @@ module _ (c : tie.Else1) where
   hold : (rule1 (s d .args .points .now) (s d .args .list .now) ≡ true) × (rule2 (s d .args .list .now) ≡ true)
   hold = both-hold (s d .args .points .now) (s d .args .list .now) (d .shape .result) (c .if1 .left) (d .shape .ensures .answer)
 
-  after : rules (s d .args .points .now) (s d .args .pairs .now) (s d .args .list .now) ≡ andThen (rules345 (s d .args .points .now) (s d .args .list .now)) (rules678 (s d .args .points .now) (s d .args .pairs .now) (s d .args .list .now))
+  after : rules (s d .args .points .now) (s d .args .pairs .now) (s d .args .list .now) ≡ andThen
+      (rules345 (s d .args .points .now) (s d .args .list .now)) (rules678 (s d .args .points .now) (s d .args .pairs .now) (s d .args .list .now))
   after = whole d ∙ passes (d .shape .result) (rules12 (s d .args .points .now) (s d .args .list .now)) (c .if1 .left) (d .shape .ensures .answer)
 
   lined : Lined (s d .args .points .now) (s d .args .pairs .now) (s d .args .list .now) (d .shape .last .1 .1 .0)
@@ -103,4 +111,5 @@ returns-4 c =
     let l = c .before .before .before in (sym (ap broken (c .if3 .left)) ∙ l .lines .ensures .0 ∙ sym (last l), all-rest l)
 
 pub judge-spec : {M : Type 1} → statement M
-judge-spec = tie.close (tie.spec (λ c κs. search needs) (λ c. search needs) returns cover-requires (λ c. search needs) returns-2 lines-requires (λ c. search needs) returns-3 (λ c. search needs) returns-4)
+judge-spec = tie.close (tie.spec (λ c κs. search needs) (λ c. search needs) returns cover-requires (λ c. search needs) returns-2 lines-requires
+    (λ c. search needs) returns-3 (λ c. search needs) returns-4)

@@ -54,11 +54,14 @@ edges-stay-requires c κs =
 kept : (c : tie.Else1) → rule6 (s (c .before .before .before) .args .pairs .now) (s (c .before .before .before) .args .list .now) ≡ true
 kept c = let d = c .before .before .before in sym (d .pairs-met .ensures .answer) ∙ not-false (d .pairs-met .result) (c .if1 .left)
 
-settled : (c : tie.After-edges-stay) (b : Bool) → c .edges-stay .result ≡ b → rule7 (s (c .before .before .before .before .before) .args .points .now) (s (c .before .before .before .before .before) .args .pairs .now) (s (c .before .before .before .before .before) .args .list .now) ≡ b
+settled : (c : tie.After-edges-stay) (b : Bool) → c .edges-stay .result ≡ b →
+    rule7 (s (c .before .before .before .before .before) .args .points .now) (s (c .before .before .before .before .before) .args .pairs .now)
+    (s (c .before .before .before .before .before) .args .list .now) ≡ b
 settled c b h =
     let l = c .before .before in
     let d = l .before .before .before in
-    sym (by-marks (s d .args .points .now) (s d .args .pairs .now) (s d .args .list .now) (d .pairs-met .last .1 .1 .0) (s d .pre .1 .listed .whole) (d .pairs-met .ensures .marked (not-false (d .pairs-met .result) (l .if1 .left)))) ∙ sym (c .edges-stay .ensures) ∙ h
+    sym (by-marks (s d .args .points .now) (s d .args .pairs .now) (s d .args .list .now) (d .pairs-met .last .1 .1 .0) (s d .pre .1 .listed .whole)
+    (d .pairs-met .ensures .marked (not-false (d .pairs-met .result) (l .if1 .left)))) ∙ sym (c .edges-stay .ensures) ∙ h
 
 returns-2 : tie.Need-returns-2
 returns-2 c =
@@ -69,17 +72,24 @@ returns-2 c =
 returns-3 : tie.Need-returns-3
 returns-3 c =
     let y = c .before .before .before in
-    let l = y .before .before in
-    (rule-so 6 _ (kept l) (rule-so 7 _ (settled y true (not-false (y .edges-stay .result) (c .before .before .if2 .left))) (rule-so 8 _ (sym (c .before .house-order .ensures) ∙ c .if3 .taken) refl)), rest (l .before .before .before))
+    let l = y .before .before in (
+      rule-so 6 _ (kept l) (rule-so 7 _ (settled y true (not-false (y .edges-stay .result) (c .before .before .if2 .left)))
+          (rule-so 8 _ (sym (c .before .house-order .ensures) ∙ c .if3 .taken) refl)),
+      rest (l .before .before .before),
+    )
 
 returns-4 : tie.Need-returns-4
 returns-4 c =
     let y = c .before .before .before in
-    let l = y .before .before in
-    (rule-so 6 _ (kept l) (rule-so 7 _ (settled y true (not-false (y .edges-stay .result) (c .before .before .if2 .left))) (rule-no 8 _ (sym (c .before .house-order .ensures) ∙ c .if3 .left))), rest (l .before .before .before))
+    let l = y .before .before in (
+      rule-so 6 _ (kept l) (rule-so 7 _ (settled y true (not-false (y .edges-stay .result) (c .before .before .if2 .left)))
+          (rule-no 8 _ (sym (c .before .house-order .ensures) ∙ c .if3 .left))),
+      rest (l .before .before .before),
+    )
 
 pairs-met-requires : tie.Need-pairs-met-requires
 pairs-met-requires c κs = let p = c .before .before .before .before .pre .1 in (p .listed, p .room, p .once, p .ends, p .blank)
 
 pub lines-spec : {M : Type 1} → statement M
-lines-spec = tie.close (tie.spec pairs-met-requires (λ c. search needs) returns edges-stay-requires (λ c. search needs) returns-2 (λ c κs. search needs) (λ c. search needs) returns-3 (λ c. search needs) returns-4)
+lines-spec = tie.close (tie.spec pairs-met-requires (λ c. search needs) returns edges-stay-requires (λ c. search needs) returns-2
+    (λ c κs. search needs) (λ c. search needs) returns-3 (λ c. search needs) returns-4)

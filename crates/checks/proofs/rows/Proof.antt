@@ -123,7 +123,8 @@ returns-8 c =
     let e = r .before .before in
     let w = z e .args .work .now in (
       r .rows-4-to-10 .ensures .0 ∙ sym (after-3 e),
-      l .clear .ensures ∙ cleared-over (64 * n e) w _ (r .rows-4-to-10 .ensures .1) ∙ sym (ap (λ (p : Paper). leftWork p (n e) w) (after-3 e) ∙ rows-leave (z e .args .points .now) (z e .args .pairs .now) (n e) w),
+      l .clear .ensures ∙ cleared-over (64 * n e) w _ (r .rows-4-to-10 .ensures .1)
+          ∙ sym (ap (λ (p : Paper). leftWork p (n e) w) (after-3 e) ∙ rows-leave (z e .args .points .now) (z e .args .pairs .now) (n e) w),
     )
 
 pub rows-spec : {M : Type 1} → statement M

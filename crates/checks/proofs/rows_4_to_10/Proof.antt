@@ -37,8 +37,11 @@ none-5 c = sym (c .before .no-area .ensures) ∙ c .if1 .left
 
 returns-3 : tie.Need-returns-3
 returns-3 c =
-    let p = c .before .before .before in
-    (sym (row-at-passes 4 _ (none-4 (p .before .before .before)) ∙ row-passes 5 _ (none-5 (p .before)) ∙ row-at-stops 6 _ (sym (p .outside-point .ensures) ∙ c .before .outside .given .1)), rest-none _ _)
+    let p = c .before .before .before in (
+      sym (row-at-passes 4 _ (none-4 (p .before .before .before)) ∙ row-passes 5 _ (none-5 (p .before))
+          ∙ row-at-stops 6 _ (sym (p .outside-point .ensures) ∙ c .before .outside .given .1)),
+      rest-none _ _,
+    )
 
 -- row 6 is passed
 none-6 : (c : tie.After-enum-told2) → let s = s (c .before .before .before .before .before) in
@@ -47,8 +50,11 @@ none-6 c = sym (c .before .before .outside-point .ensures) ∙ c .enum-told2 .gi
 
 returns-4 : tie.Need-returns-4
 returns-4 c =
-    let p = c .before .before .before .before in
-    (sym (row-at-passes 4 _ (none-4 (p .before .before .before .before .before)) ∙ row-passes 5 _ (none-5 (p .before .before .before)) ∙ row-at-passes 6 _ (none-6 p) ∙ row-at-stops 7 _ (sym (c .before .before .before .equal-point .ensures) ∙ c .before .equal .given .1)), rest-none _ _)
+    let p = c .before .before .before .before in (
+      sym (row-at-passes 4 _ (none-4 (p .before .before .before .before .before)) ∙ row-passes 5 _ (none-5 (p .before .before .before))
+          ∙ row-at-passes 6 _ (none-6 p) ∙ row-at-stops 7 _ (sym (c .before .before .before .equal-point .ensures) ∙ c .before .equal .given .1)),
+      rest-none _ _,
+    )
 
 -- row 7 is passed
 module _ (c : tie.After-enum-told3) where
@@ -81,8 +87,11 @@ rows-8-to-10-requires c κs = let q = c .before in (figure q, (t q .pre .0 .1, t
 returns-5 : tie.Need-returns-5
 returns-5 c =
     let r = c .before .before in
-    let q = r .before .before in
-    (r .rows-8-to-10 .ensures .0 ∙ sym (row-at-passes 4 _ (none-4 (p q .before .before .before .before .before)) ∙ row-passes 5 _ (none-5 (p q .before .before .before)) ∙ row-at-passes 6 _ (none-6 (p q)) ∙ row-at-passes 7 _ (none-7 q)), r .rows-8-to-10 .ensures .1)
+    let q = r .before .before in (
+      r .rows-8-to-10 .ensures .0 ∙ sym (row-at-passes 4 _ (none-4 (p q .before .before .before .before .before))
+          ∙ row-passes 5 _ (none-5 (p q .before .before .before)) ∙ row-at-passes 6 _ (none-6 (p q)) ∙ row-at-passes 7 _ (none-7 q)),
+      r .rows-8-to-10 .ensures .1,
+    )
 
 pub rows-4-to-10-spec : {M : Type 1} → statement M
 rows-4-to-10-spec =

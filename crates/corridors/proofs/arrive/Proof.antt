@@ -15,8 +15,14 @@ turn-right-requires : tie.Need-turn-right-requires
 turn-right-requires c κs =
     let s = c .before .before .before .before .before .before .args in
     let p = c .before .before .before .before .before .before .pre in
-    let q : prv (s .y) < 3 * (2 * s .n) = prv-in (s .y) (2 * s .n) (omega arith) in
-    (subst (Area (s .n)) (sym (c .before .before .before .turn-left .ensures .1)) (enter-area (s .n) (s .work .now) (s .l + s .r - 1) (s .y) (prv (s .y)) (s .l) (s .l + 1) (s .b) (p .0) (omega arith) (omega arith)), p .1, p .2, p .3, p .4)
+    let q : prv (s .y) < 3 * (2 * s .n) = prv-in (s .y) (2 * s .n) (omega arith) in (
+      subst (Area (s .n)) (sym (c .before .before .before .turn-left .ensures .1))
+          (enter-area (s .n) (s .work .now) (s .l + s .r - 1) (s .y) (prv (s .y)) (s .l) (s .l + 1) (s .b) (p .0) (omega arith) (omega arith)),
+      p .1,
+      p .2,
+      p .3,
+      p .4,
+    )
 
 returns : tie.Need-returns
 unfolding arriveW

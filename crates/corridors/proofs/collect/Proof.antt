@@ -57,7 +57,8 @@ turn-left-requires c κs =
     let m : k .loop .l + k .loop .r ≤ s .count = c .before .before .before .before .before .before .before .loop-test .taken in
     let y = c .before .before .before .v .given .0 .0 in
     let z = c .before .before .before .v .given .0 .1 .0 in
-    let e : lookAt (point (s .points .now)) (s .count) (s .a) (s .b) (k .loop .work) (k .loop .x) ≡ Left y z = sym (c .before .before .before .before .before .look .ensures) ∙ c .before .before .before .v .given .1 in
+    let e : lookAt (point (s .points .now)) (s .count) (s .a) (s .b) (k .loop .work) (k .loop .x) ≡ Left y z =
+    sym (c .before .before .before .before .before .look .ensures) ∙ c .before .before .before .v .given .1 in
     let h = left-low (s .n) (s .count) (point (s .points .now)) (s .a) (s .b) (k .loop .work) (k .loop .x) rm y z e in
     let h0 = h .0 in
     (room-area (s .n) (s .count) (k .loop .work) rm, some o m, fits o m, omega arith, rw (c .wide .ensures) (h .1))
@@ -86,8 +87,10 @@ loop-again c =
     let m : k .loop .l + k .loop .r ≤ s .count = c .before .before .before .before .before .before .before .before .before .before .loop-test .taken in
     let y = c .before .before .before .before .before .before .v .given .0 .0 in
     let z = c .before .before .before .before .before .before .v .given .0 .1 .0 in
-    let e : lookAt (point (s .points .now)) (s .count) (s .a) (s .b) (k .loop .work) (k .loop .x) ≡ Left y z = sym (c .before .before .before .before .before .before .before .before .look .ensures) ∙ c .before .before .before .before .before .before .v .given .1 in
-    live-left o m e (c .before .before .turn-left .ensures .1 ∙ ap (λ (u : ℕ). leftW (s .n) (k .loop .work) (k .loop .l) (k .loop .r) y u) (c .before .before .before .wide .ensures)) (c .before .before .turn-left .ensures .0)
+    let e : lookAt (point (s .points .now)) (s .count) (s .a) (s .b) (k .loop .work) (k .loop .x) ≡ Left y z =
+    sym (c .before .before .before .before .before .before .before .before .look .ensures) ∙ c .before .before .before .before .before .before .v .given .1 in
+    live-left o m e (c .before .before .turn-left .ensures .1
+    ∙ ap (λ (u : ℕ). leftW (s .n) (k .loop .work) (k .loop .l) (k .loop .r) y u) (c .before .before .before .wide .ensures)) (c .before .before .turn-left .ensures .0)
 
 turn-right-requires : tie.Need-turn-right-requires Inv-loop μ-loop
 turn-right-requires c κs =
@@ -99,7 +102,8 @@ turn-right-requires c κs =
     let m : k .loop .l + k .loop .r ≤ s .count = c .before .before .before .before .before .before .before .loop-test .taken in
     let y = c .before .before .before .v2 .given .0 .0 in
     let z = c .before .before .before .v2 .given .0 .1 .0 in
-    let e : lookAt (point (s .points .now)) (s .count) (s .a) (s .b) (k .loop .work) (k .loop .x) ≡ Right y z = sym (c .before .before .before .before .before .look .ensures) ∙ c .before .before .before .v2 .given .1 in
+    let e : lookAt (point (s .points .now)) (s .count) (s .a) (s .b) (k .loop .work) (k .loop .x) ≡ Right y z =
+    sym (c .before .before .before .before .before .look .ensures) ∙ c .before .before .before .v2 .given .1 in
     let h = right-low (s .n) (s .count) (point (s .points .now)) (s .a) (s .b) (k .loop .work) (k .loop .x) rm y z e in
     let h0 = h .0 in
     (room-area (s .n) (s .count) (k .loop .work) rm, some o m, fits o m, omega arith, rw (c .wide2 .ensures) (h .1))
@@ -128,8 +132,10 @@ loop-again-2 c =
     let m : k .loop .l + k .loop .r ≤ s .count = c .before .before .before .before .before .before .before .before .before .before .loop-test .taken in
     let y = c .before .before .before .before .before .before .v2 .given .0 .0 in
     let z = c .before .before .before .before .before .before .v2 .given .0 .1 .0 in
-    let e : lookAt (point (s .points .now)) (s .count) (s .a) (s .b) (k .loop .work) (k .loop .x) ≡ Right y z = sym (c .before .before .before .before .before .before .before .before .look .ensures) ∙ c .before .before .before .before .before .before .v2 .given .1 in
-    live-right o m e (c .before .before .turn-right .ensures .1 ∙ ap (λ (u : ℕ). rightW (s .n) (k .loop .work) (k .loop .l) (k .loop .r) y u) (c .before .before .before .wide2 .ensures)) (c .before .before .turn-right .ensures .0)
+    let e : lookAt (point (s .points .now)) (s .count) (s .a) (s .b) (k .loop .work) (k .loop .x) ≡ Right y z =
+    sym (c .before .before .before .before .before .before .before .before .look .ensures) ∙ c .before .before .before .before .before .before .v2 .given .1 in
+    live-right o m e (c .before .before .turn-right .ensures .1
+    ∙ ap (λ (u : ℕ). rightW (s .n) (k .loop .work) (k .loop .l) (k .loop .r) y u) (c .before .before .before .wide2 .ensures)) (c .before .before .turn-right .ensures .0)
 
 arrive-requires : tie.Need-arrive-requires Inv-loop μ-loop
 arrive-requires c κs =
@@ -155,11 +161,19 @@ returns c =
     let rm = o .room in
     let m : k .loop .l + k .loop .r ≤ s .count = c .before .before .before .before .before .before .before .before .before .loop-test .taken in
     let y = c .before .before .before .before .before .v3 .given .0 .0 in
-    let e : lookAt (point (s .points .now)) (s .count) (s .a) (s .b) (k .loop .work) (k .loop .x) ≡ Last y = sym (c .before .before .before .before .before .before .before .look .ensures) ∙ c .before .before .before .before .before .v3 .given .1 in
+    let e : lookAt (point (s .points .now)) (s .count) (s .a) (s .b) (k .loop .work) (k .loop .x) ≡ Last y =
+    sym (c .before .before .before .before .before .before .before .look .ensures) ∙ c .before .before .before .before .before .v3 .given .1 in
     let h = last-low (s .n) (s .count) (point (s .points .now)) (s .a) (s .b) (k .loop .work) (k .loop .x) rm y e in
     let i = c .before .before .arrive .ensures in
     let d = c .before .before .before .before .before .before .before .before .before .before .before .before .pre .1 .3 in
-    record { walks = o .go _ _ (last m e i); bounded = (o .some-l, o .some-r, m); room = subst (Room (s .n) (s .count)) (sym i) (arrive-room (s .n) (s .count) (k .loop .work) (k .loop .l) (k .loop .r) y (s .b) rm (fits o m) (some o m) h d); kept = kept-then (s .n) (s .work .now) (k .loop .work) _ (o .kept) (subst (Kept (s .n) (k .loop .work)) (sym i) (arrive-kept (s .n) (s .count) (k .loop .work) (k .loop .l) (k .loop .r) y (s .b) rm (fits o m) (some o m) h d)) }
+    record {
+      walks = o .go _ _ (last m e i);
+      bounded = (o .some-l, o .some-r, m);
+      room = subst (Room (s .n) (s .count)) (sym i) (arrive-room (s .n) (s .count) (k .loop .work) (k .loop .l) (k .loop .r) y (s .b) rm (fits o m)
+          (some o m) h d);
+      kept = kept-then (s .n) (s .work .now) (k .loop .work) _ (o .kept)
+          (subst (Kept (s .n) (k .loop .work)) (sym i) (arrive-kept (s .n) (s .count) (k .loop .work) (k .loop .l) (k .loop .r) y (s .b) rm (fits o m) (some o m) h d));
+    }
 
 same-length-2 : tie.Need-same-length-2 Inv-loop μ-loop
 same-length-2 c = c .before .before .before .before .before .before .loop .inv .kept .len
@@ -170,7 +184,8 @@ returns-2 c =
     let k = c .before .before .before .before .before .before in
     let o = k .loop .inv in
     let m : k .loop .l + k .loop .r ≤ s .count = c .before .before .before .before .before .loop-test .taken in
-    let e : lookAt (point (s .points .now)) (s .count) (s .a) (s .b) (k .loop .work) (k .loop .x) ≡ Stuck (c .before .v4 .given .0 .0) = sym (c .before .before .before .look .ensures) ∙ c .before .v4 .given .1 in
+    let e : lookAt (point (s .points .now)) (s .count) (s .a) (s .b) (k .loop .work) (k .loop .x) ≡ Stuck (c .before .v4 .given .0 .0) =
+    sym (c .before .before .before .look .ensures) ∙ c .before .v4 .given .1 in
     record { walks = o .go _ _ (stop m e); bounded = tt; room = o .room; kept = o .kept }
 
 same-length-3 : tie.Need-same-length-3 Inv-loop μ-loop

@@ -28,7 +28,8 @@ returns-3 : tie.Need-returns-3
 unfolding cell
 returns-3 c =
     let s = c .before .before .before .before .before .before .before .args in
-    let e : c .before .before .before .before .wide .result ≡ adj (s .work .now) (s .x) = c .before .before .before .before .wide .ensures ∙ c .before .before .before .before .before .partner .ensures in
+    let e : c .before .before .before .before .wide .result ≡ adj (s .work .now) (s .x) = c .before .before .before .before .wide .ensures
+    ∙ c .before .before .before .before .before .partner .ensures in
     let l : 3 * s .count < adj (s .work .now) (s .x) = subst (λ (u : ℕ). 3 * s .count < u) e (c .if3 .taken) in
     look-twice (point (s .points .now)) (s .count) (s .a) (s .b) (s .work .now) (s .x) (λ q. c .before .before .before .if1 .left (e ∙ q)) (c .before .if2 .left) l
 
@@ -64,13 +65,15 @@ unfolding cell
 returns-4 c =
     let s = c .before .before .before .before .before .before .before .before .before .before .args in
     let m = c .before .before .before .before .before .before .before .wide .result in
-    let e : m ≡ adj (s .work .now) (s .x) = c .before .before .before .before .before .before .before .wide .ensures ∙ c .before .before .before .before .before .before .before .before .partner .ensures in
+    let e : m ≡ adj (s .work .now) (s .x) = c .before .before .before .before .before .before .before .wide .ensures
+    ∙ c .before .before .before .before .before .before .before .before .partner .ensures in
     let l : adj (s .work .now) (s .x) ≤ 3 * s .count = subst (λ (u : ℕ). u ≤ 3 * s .count) e (let z : m ≤ 3 * s .count = omega (arith, c .before .before .before .if3 .left) in z) in
     let k : c .before .start .result ≡ org (s .work .now) (prv (m - 1)) = c .before .start .ensures ∙ ap (λ (u : ℕ). org (s .work .now) u) (c .before .before .previous .ensures) in
     c .meet .ensures
     ∙ ap (λ (u : ℕ). met (point (s .points .now)) (s .a) (s .b) (m - 1) u) k
     ∙ ap (λ (u : ℕ). met (point (s .points .now)) (s .a) (s .b) (u - 1) (org (s .work .now) (prv (u - 1)))) e
-    ∙ look-met (point (s .points .now)) (s .count) (s .a) (s .b) (s .work .now) (s .x) (λ q. c .before .before .before .before .before .before .if1 .left (e ∙ q)) (c .before .before .before .before .if2 .left) l
+    ∙ look-met (point (s .points .now)) (s .count) (s .a) (s .b) (s .work .now) (s .x)
+    (λ q. c .before .before .before .before .before .before .if1 .left (e ∙ q)) (c .before .before .before .before .if2 .left) l
 
 pub look-spec : {M : Type 1} → statement M
 look-spec =

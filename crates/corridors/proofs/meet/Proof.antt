@@ -40,16 +40,20 @@ returns-3 : tie.Need-returns-3
 returns-3 c =
     let s = c .before .before .before .before .before .before .args in
     let e = c .before .before .before .before .before .wide .ensures in
-    let l : posb (orient (point (s .points .now) (s .a)) (point (s .points .now) (s .b)) (point (s .points .now) (s .c))) ≡ false = rw e at (sym (c .before .before .before .is-left .ensures) ∙ c .before .before .if2 .left) in
-    let r : posb (negℤ (orient (point (s .points .now) (s .a)) (point (s .points .now) (s .b)) (point (s .points .now) (s .c)))) ≡ true = rw e at (sym (c .before .is-right .ensures) ∙ c .if3 .taken) in
+    let l : posb (orient (point (s .points .now) (s .a)) (point (s .points .now) (s .b)) (point (s .points .now) (s .c))) ≡ false =
+    rw e at (sym (c .before .before .before .is-left .ensures) ∙ c .before .before .if2 .left) in
+    let r : posb (negℤ (orient (point (s .points .now) (s .a)) (point (s .points .now) (s .b)) (point (s .points .now) (s .c)))) ≡ true =
+    rw e at (sym (c .before .is-right .ensures) ∙ c .if3 .taken) in
     met-right (point (s .points .now)) (s .a) (s .b) (s .y) (s .c) (λ q. c .before .before .before .before .if1 .left (e ∙ q)) l r
 
 returns-4 : tie.Need-returns-4
 returns-4 c =
     let s = c .before .before .before .before .before .before .args in
     let e = c .before .before .before .before .before .wide .ensures in
-    let l : posb (orient (point (s .points .now) (s .a)) (point (s .points .now) (s .b)) (point (s .points .now) (s .c))) ≡ false = rw e at (sym (c .before .before .before .is-left .ensures) ∙ c .before .before .if2 .left) in
-    let r : posb (negℤ (orient (point (s .points .now) (s .a)) (point (s .points .now) (s .b)) (point (s .points .now) (s .c)))) ≡ false = rw e at (sym (c .before .is-right .ensures) ∙ c .if3 .left) in
+    let l : posb (orient (point (s .points .now) (s .a)) (point (s .points .now) (s .b)) (point (s .points .now) (s .c))) ≡ false =
+    rw e at (sym (c .before .before .before .is-left .ensures) ∙ c .before .before .if2 .left) in
+    let r : posb (negℤ (orient (point (s .points .now) (s .a)) (point (s .points .now) (s .b)) (point (s .points .now) (s .c)))) ≡ false =
+    rw e at (sym (c .before .is-right .ensures) ∙ c .if3 .left) in
     met-line (point (s .points .now)) (s .a) (s .b) (s .y) (s .c) (λ q. c .before .before .before .before .if1 .left (e ∙ q)) l r
 
 pub meet-spec : {M : Type 1} → statement M

@@ -18,8 +18,11 @@ enter-requires c κs =
 
 returns : tie.Need-returns
 returns c =
-    let s = c .before .before .before .before .before .before .before .args in
-    (c .next .ensures, c .before .before .before .enter .ensures ∙ ap (λ (u : ℕ). enterW (s .n) (s .work .now) (s .l + s .r - 1) (s .y) u (s .l) (s .l + 1) (s .c)) (c .before .before .before .before .before .previous .ensures))
+    let s = c .before .before .before .before .before .before .before .args in (
+      c .next .ensures,
+      c .before .before .before .enter .ensures
+          ∙ ap (λ (u : ℕ). enterW (s .n) (s .work .now) (s .l + s .r - 1) (s .y) u (s .l) (s .l + 1) (s .c)) (c .before .before .before .before .before .previous .ensures),
+    )
 
 pub turn-left-spec : {M : Type 1} → statement M
 turn-left-spec =

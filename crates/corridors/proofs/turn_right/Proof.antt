@@ -18,8 +18,12 @@ enter-requires c κs =
 
 returns : tie.Need-returns
 returns c =
-    let s = c .before .before .before .before .before .before .before .args in
-    (c .previous .ensures, c .before .before .before .enter .ensures ∙ ap (λ (u : ℕ). enterW (s .n) (s .work .now) (s .l + s .r - 1) (s .y) u (2 * s .n - 2 - s .r) (2 * s .n - 2 - s .r) (s .c)) (c .before .before .before .before .before .next .ensures))
+    let s = c .before .before .before .before .before .before .before .args in (
+      c .previous .ensures,
+      c .before .before .before .enter .ensures
+          ∙ ap (λ (u : ℕ). enterW (s .n) (s .work .now) (s .l + s .r - 1) (s .y) u (2 * s .n - 2 - s .r) (2 * s .n - 2 - s .r) (s .c))
+          (c .before .before .before .before .before .next .ensures),
+    )
 
 pub turn-right-spec : {M : Type 1} → statement M
 turn-right-spec =

@@ -48,7 +48,8 @@ product = times w64 (arg 0) (arg 1)
 
 returns : tie.Need-returns
 returns c =
-    ap (λ (x : ℤ). ltZ x (pos 0)) (is-small w64 bound (σ c) (near c) product (var 0 ⊗ var 1) tt tt) ∙ opposed-product (c .before .orient-det .result) (c .orient-det2 .result) ∙ ap₂ opposed (side-c (c .before)) (side-d c)
+    ap (λ (x : ℤ). ltZ x (pos 0)) (is-small w64 bound (σ c) (near c) product (var 0 ⊗ var 1) tt tt)
+    ∙ opposed-product (c .before .orient-det .result) (c .orient-det2 .result) ∙ ap₂ opposed (side-c (c .before)) (side-d c)
 
 pub on-both-sides-spec : {M : Type 1} → statement M
 on-both-sides-spec =

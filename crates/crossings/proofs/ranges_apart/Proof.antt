@@ -36,8 +36,10 @@ abbrev σ : tie.After-upper2 → List ℤ
 
 near : (c : tie.After-upper2) → Small limit (σ c)
 near c =
-    let s = c .before .before .before .before in
-    (lower-near (ρ s) (s .pre) 2 3 (from-c-d (c .before .before .before)), (upper-near (ρ s) (s .pre) 0 1 (to-a-b (c .before .before)), (lower-near (ρ s) (s .pre) 0 1 (from-a-b (c .before)), (upper-near (ρ s) (s .pre) 2 3 (to-c-d c), tt))))
+    let s = c .before .before .before .before in (
+      lower-near (ρ s) (s .pre) 2 3 (from-c-d (c .before .before .before)),
+      (upper-near (ρ s) (s .pre) 0 1 (to-a-b (c .before .before)), (lower-near (ρ s) (s .pre) 0 1 (from-a-b (c .before)), (upper-near (ρ s) (s .pre) 2 3 (to-c-d c), tt))),
+    )
 
 abbrev dif : ℕ → ℕ → Code
 dif i j = minus w32 (arg i) (arg j)
@@ -51,7 +53,8 @@ sub-result c =
 returns : tie.Need-returns
 returns c =
     let s = c .before .before .before .before in
-    ap (λ (x : ℤ). ltZ x (pos 0)) (is-small w32 limit (σ c) (near c) (times w32 (dif 0 1) (dif 2 3)) ((var 0 ⊖ var 1) ⊗ (var 2 ⊖ var 3)) tt tt) ∙ apart-told (s .args .a) (s .args .b) (s .args .c) (s .args .d) (from-c-d (c .before .before .before)) (to-a-b (c .before .before)) (from-a-b (c .before)) (to-c-d c)
+    ap (λ (x : ℤ). ltZ x (pos 0)) (is-small w32 limit (σ c) (near c) (times w32 (dif 0 1) (dif 2 3)) ((var 0 ⊖ var 1) ⊗ (var 2 ⊖ var 3)) tt tt)
+    ∙ apart-told (s .args .a) (s .args .b) (s .args .c) (s .args .d) (from-c-d (c .before .before .before)) (to-a-b (c .before .before)) (from-a-b (c .before)) (to-c-d c)
 
 pub ranges-apart-spec : {M : Type 1} → statement M
 ranges-apart-spec =

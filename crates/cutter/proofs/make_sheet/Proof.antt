@@ -108,8 +108,10 @@ clear-requires c κs =
 returns : tie.Need-returns
 returns c =
     let l = c .before .before .before .before .before .before .before .before in let q = p (t l) in let x = z q in (
-      Passed.sheet (b (k q) .build .result) (written (ps x) (qs x) (out x) (w x) (passed x) (b (k q) .build .ensures) (k q .clear-rows .ensures) (in' (t l) .1) (in' (t l) .0) (l .write-sheet .ensures)),
-      sheet-left (ps x) (qs x) (out x) (w x) (passed x) (b (k q) .build .ensures) (k q .clear-rows .ensures) (in' (t l) .1) (in' (t l) .0) (l .write-sheet .ensures) (c .before .before .clear .ensures),
+      Passed.sheet (b (k q) .build .result) (written (ps x) (qs x) (out x) (w x) (passed x) (b (k q) .build .ensures) (k q .clear-rows .ensures)
+          (in' (t l) .1) (in' (t l) .0) (l .write-sheet .ensures)),
+      sheet-left (ps x) (qs x) (out x) (w x) (passed x) (b (k q) .build .ensures) (k q .clear-rows .ensures) (in' (t l) .1) (in' (t l) .0)
+          (l .write-sheet .ensures) (c .before .before .clear .ensures),
     )
 
 -- one is stuck
@@ -130,11 +132,14 @@ clear-requires-2 c κs =
 
 returns-2 : tie.Need-returns-2
 returns-2 c =
-    let u = c .before .before .before .before in let q = p2 u in let x = z q in
-    (Passed.stuck (u .before .k .given .0 .0) (at u .0) (at u .1) refl, stuck-left (ps x) (qs x) (out x) (w x) (passed x) (b (k q) .build .ensures) (k q .clear-rows .ensures) (at u .2) (c .before .before .clear2 .ensures))
+    let u = c .before .before .before .before in let q = p2 u in let x = z q in (
+      Passed.stuck (u .before .k .given .0 .0) (at u .0) (at u .1) refl,
+      stuck-left (ps x) (qs x) (out x) (w x) (passed x) (b (k q) .build .ensures) (k q .clear-rows .ensures) (at u .2) (c .before .before .clear2 .ensures),
+    )
 
 pub make-sheet-spec : {M : Type 1} → statement M
 make-sheet-spec =
     tie.close
-    (tie.spec build-requires clear-rows-requires recover-pairs-requires (λ c. search needs) (λ c. search needs) write-sheet-requires mul-clear clear-requires (λ c. search needs) (λ c. search needs) returns
+    (tie.spec build-requires clear-rows-requires recover-pairs-requires (λ c. search needs) (λ c. search needs)
+    write-sheet-requires mul-clear clear-requires (λ c. search needs) (λ c. search needs) returns
     mul-clear-2 clear-requires-2 (λ c. search needs) returns-2)

@@ -34,4 +34,7 @@ returns c = ap (corner (c .before .before .before .before .args .list .now)) (c 
 pub apex-spec : {M : Type 1} → statement M
 apex-spec =
     tie.close
-    (tie.spec next-edge-requires next-edge-requires-2 (λ c. record { fits = let a = low2 c in let f = c .before .before .before .pre .0 .few in omega arith }) (λ c. low2 (c .before)) cast-result returns)
+    (tie.spec next-edge-requires next-edge-requires-2 (λ c. record {
+      fits = let a = low2 c in let f = c .before .before .before .pre .0 .few in
+          omega arith;
+    }) (λ c. low2 (c .before)) cast-result returns)

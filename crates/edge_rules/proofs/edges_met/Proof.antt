@@ -27,7 +27,9 @@ is-met-requires c κs = let p = c .before .before .before .before .pre in (p .0,
 returns : tie.Need-returns Inv-loop μ-loop
 returns c =
     let s = c .before .before .before .before .before .before in
-    sym (all-met (s .args .points .now) (s .args .list .now) (s .pre .3 .whole) ∙ all-fails (met (s .args .points .now) (s .args .list .now)) (length (s .args .list .now)) (c .before .before .before .loop .h) (c .before .before .loop-test .taken) (sym (c .before .is-met .ensures) ∙ not-true (c .before .is-met .result) (c .if1 .taken)))
+    sym (all-met (s .args .points .now) (s .args .list .now) (s .pre .3 .whole)
+    ∙ all-fails (met (s .args .points .now) (s .args .list .now)) (length (s .args .list .now)) (c .before .before .before .loop .h)
+    (c .before .before .loop-test .taken) (sym (c .before .is-met .ensures) ∙ not-true (c .before .is-met .result) (c .if1 .taken)))
 
 loop-again : tie.Need-loop-again Inv-loop μ-loop
 loop-again c =

@@ -32,13 +32,17 @@ stays-requires c κs = let p = c .before .before .before .before .pre in (p .0, 
 returns : tie.Need-returns Inv-loop μ-loop
 returns c =
     let s = c .before .before .before .before .before .before in
-    sym (all-fails (still (s .args .points .now) (s .args .list .now) (s .args .work .now)) (length (s .args .list .now)) (c .before .before .before .loop .h) (c .before .before .loop-test .taken) (sym (c .before .stays .ensures) ∙ not-true (c .before .stays .result) (c .if1 .taken)))
+    sym (all-fails (still (s .args .points .now) (s .args .list .now) (s .args .work .now)) (length (s .args .list .now))
+    (c .before .before .before .loop .h) (c .before .before .loop-test .taken) (sym (c .before .stays .ensures) ∙ not-true (c .before .stays .result) (c .if1 .taken)))
 
 loop-again : tie.Need-loop-again Inv-loop μ-loop
 loop-again c =
     let s = c .before .before .before .before .before .before in
-    let l = c .before .before .before .loop in
-    (omega arith, all-more (still (s .args .points .now) (s .args .list .now) (s .args .work .now)) (l .h) (l .inv .1) (sym (c .before .stays .ensures) ∙ not-false (c .before .stays .result) (c .if1 .left)))
+    let l = c .before .before .before .loop in (
+      omega arith,
+      all-more (still (s .args .points .now) (s .args .list .now) (s .args .work .now)) (l .h) (l .inv .1)
+          (sym (c .before .stays .ensures) ∙ not-false (c .before .stays .result) (c .if1 .left)),
+    )
 
 returns-2 : tie.Need-returns-2 Inv-loop μ-loop
 returns-2 c =

@@ -29,8 +29,13 @@ module _ (c : tie.After-head) where
 find-requires : tie.Need-find-requires
 find-requires c κs =
     let n = c .before in
-    let p = s n .pre in
-    (subst (λ (k : ℕ). k < s n .args .n) (sym (n .head .ensures)) (p .0 .corners (nxt (s n .args .h)) (nxt-low (s n .args .h) (length (s n .args .list .now)) (p .1) (p .0 .whole))), p .0 .whole, p .0 .fits, p .0 .indexed)
+    let p = s n .pre in (
+      subst (λ (k : ℕ). k < s n .args .n) (sym (n .head .ensures))
+          (p .0 .corners (nxt (s n .args .h)) (nxt-low (s n .args .h) (length (s n .args .list .now)) (p .1) (p .0 .whole))),
+      p .0 .whole,
+      p .0 .fits,
+      p .0 .indexed,
+    )
 
 returns : tie.Need-returns
 returns c =

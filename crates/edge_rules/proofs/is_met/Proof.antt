@@ -22,8 +22,16 @@ head-requires c κs = let p = c .before .before .before .before .before .pre in 
 along-side-requires : tie.Need-along-side-requires
 along-side-requires c κs =
     let s = c .before .before .before .before .before .before in
-    let p = s .pre in
-    (p .0, (p .1, p .3 .corners (s .args .h) (p .4), subst (λ (k : ℕ). k < pointCount (s .args .points .now)) (sym (c .head .ensures)) (p .3 .corners (nxt (s .args .h)) (nxt-low (s .args .h) (length (s .args .list .now)) (p .4) (p .3 .whole))), p .2))
+    let p = s .pre in (
+      p .0,
+      (
+        p .1,
+        p .3 .corners (s .args .h) (p .4),
+        subst (λ (k : ℕ). k < pointCount (s .args .points .now)) (sym (c .head .ensures))
+            (p .3 .corners (nxt (s .args .h)) (nxt-low (s .args .h) (length (s .args .list .now)) (p .4) (p .3 .whole))),
+        p .2,
+      ),
+    )
 
 returns-2 : tie.Need-returns-2
 returns-2 c =

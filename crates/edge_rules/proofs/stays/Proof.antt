@@ -39,8 +39,13 @@ module _ (c : tie.After-head) where
 find-requires : tie.Need-find-requires
 find-requires c κs =
     let n = c .before in
-    let p = s n .pre in
-    (subst (λ (k : ℕ). k < pointCount (s n .args .points .now)) (sym (n .head .ensures)) (p .1 .corners (nxt (s n .args .h)) (nxt-low (s n .args .h) (length (s n .args .list .now)) (p .4) (p .1 .whole))), p .1 .whole, p .1 .fits, p .1 .indexed)
+    let p = s n .pre in (
+      subst (λ (k : ℕ). k < pointCount (s n .args .points .now)) (sym (n .head .ensures))
+          (p .1 .corners (nxt (s n .args .h)) (nxt-low (s n .args .h) (length (s n .args .list .now)) (p .4) (p .1 .whole))),
+      p .1 .whole,
+      p .1 .fits,
+      p .1 .indexed,
+    )
 
 found-at : (c : tie.After-known-told) → last (c .before .before .before .before .before) ≡ suc (c .before .found .given .0 .0)
 found-at c =
@@ -51,8 +56,13 @@ turns-requires : tie.Need-turns-requires
 turns-requires c κs =
     let n = c .before .before .before .before .before in
     let s = s n in
-    let p = s .pre in
-    (p .0, record { whole = p .1 .whole; few = p .1 .fits .few }, p .1 .corners, p .4, low (s .args .points .now) (s .args .list .now) (s .args .work .now) (s .args .h) (p .1 .whole) (p .3) (c .before .found .given .0 .0) (found-at c))
+    let p = s .pre in (
+      p .0,
+      record { whole = p .1 .whole; few = p .1 .fits .few },
+      p .1 .corners,
+      p .4,
+      low (s .args .points .now) (s .args .list .now) (s .args .work .now) (s .args .h) (p .1 .whole) (p .3) (c .before .found .given .0 .0) (found-at c),
+    )
 
 returns-2 : tie.Need-returns-2
 returns-2 c =
@@ -60,7 +70,8 @@ returns-2 c =
     let n = k .before .before .before .before .before in
     let s = s n in
     let p = s .pre in
-    ap not (c .turns .ensures) ∙ flip-stays (s .args .points .now) (s .args .list .now) (s .args .work .now) (s .args .h) (p .1 .whole) (p .3) (k .before .found .given .0 .0) (found-at k) (eq-eqb _ _ (n .before .if1 .left))
+    ap not (c .turns .ensures) ∙ flip-stays (s .args .points .now) (s .args .list .now) (s .args .work .now) (s .args .h) (p .1 .whole) (p .3)
+    (k .before .found .given .0 .0) (found-at k) (eq-eqb _ _ (n .before .if1 .left))
 
 returns-3 : tie.Need-returns-3
 returns-3 c =
@@ -71,5 +82,6 @@ returns-3 c =
 pub stays-spec : {M : Type 1} → statement M
 stays-spec =
     tie.close
-    (tie.spec (λ c. search needs) (λ c. search needs) (λ c. search needs) (λ c. spot (c .before .before .before)) returns head-requires (λ c. search needs) (λ c. search needs) find-requires (λ c. search needs)
+    (tie.spec (λ c. search needs) (λ c. search needs) (λ c. search needs) (λ c. spot (c .before .before .before)) returns head-requires
+    (λ c. search needs) (λ c. search needs) find-requires (λ c. search needs)
     turns-requires (λ c. search needs) returns-2 returns-3)

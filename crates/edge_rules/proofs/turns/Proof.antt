@@ -42,7 +42,9 @@ returns c =
     let d = c .before in
     let ps = s d .args .points .now in
     let a = corner (s d .args .list .now) (s d .args .h) in
-    c .would-flip .ensures ∙ ap (λ (b : ℕ). flips ps a b (d .before .apex .result) (d .apex2 .result)) (d .before .before .head .ensures) ∙ ap (λ (x : ℕ). flips ps a (corner (s d .args .list .now) (nxt (s d .args .h))) x (d .apex2 .result)) (d .before .apex .ensures) ∙ ap (λ (x : ℕ). flips ps a (corner (s d .args .list .now) (nxt (s d .args .h))) (corner (s d .args .list .now) (nxt (nxt (s d .args .h)))) x) (d .apex2 .ensures)
+    c .would-flip .ensures ∙ ap (λ (b : ℕ). flips ps a b (d .before .apex .result) (d .apex2 .result)) (d .before .before .head .ensures)
+    ∙ ap (λ (x : ℕ). flips ps a (corner (s d .args .list .now) (nxt (s d .args .h))) x (d .apex2 .result)) (d .before .apex .ensures)
+    ∙ ap (λ (x : ℕ). flips ps a (corner (s d .args .list .now) (nxt (s d .args .h))) (corner (s d .args .list .now) (nxt (nxt (s d .args .h)))) x) (d .apex2 .ensures)
 
 pub turns-spec : {M : Type 1} → statement M
 turns-spec = tie.close (tie.spec (λ c. search needs) (λ c. search needs) cast-a (λ c κs. search needs) (λ c. search needs) (λ c κs. search needs) (λ c κs. search needs) would-flip-requires returns)

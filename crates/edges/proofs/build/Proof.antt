@@ -60,8 +60,11 @@ loop-again : tie.Need-loop-again Inv-loop μ-loop
 loop-again c =
     let b = c .before in
     let s = b .before .before .before in
-    let l = b .before .before .loop in
-    (omega arith, more-indexed (s .args .n) (s .args .list .now) (l .work) (l .h) (low b) (s .pre .0) (room b) (l .inv .1), more-rest (s .args .n) (s .args .list .now) (l .work) (l .h) (low b) (s .pre .0) (room b) (l .inv .1) (s .args .work .now) (l .inv .2))
+    let l = b .before .before .loop in (
+      omega arith,
+      more-indexed (s .args .n) (s .args .list .now) (l .work) (l .h) (low b) (s .pre .0) (room b) (l .inv .1),
+      more-rest (s .args .n) (s .args .list .now) (l .work) (l .h) (low b) (s .pre .0) (room b) (l .inv .1) (s .args .work .now) (l .inv .2),
+    )
 
 returns : tie.Need-returns Inv-loop μ-loop
 returns c =

@@ -28,7 +28,8 @@ returns-3 c =
     let s = e .before .before in
     let x = s .args in
     let l = s .pre .1 in
-    below-3 (x .points .now) (x .a) (x .b) (x .c) (x .d) (l .0) (l .1) (l .2) (l .3) _ _ (e .before .lower .ensures .1) (e .lower2 .ensures .1) _ _ (u .before .upper .ensures .1) (u .upper2 .ensures .1)
+    below-3 (x .points .now) (x .a) (x .b) (x .c) (x .d) (l .0) (l .1) (l .2) (l .3) _ _ (e .before .lower .ensures .1) (e .lower2 .ensures .1) _ _
+    (u .before .upper .ensures .1) (u .upper2 .ensures .1)
     (f .before .before2 .ensures) (f .if1 .left) (g .before .before3 .ensures) (g .if2 .left) (c .before4 .ensures)
 
 pub pair-below-spec : {M : Type 1} → statement M

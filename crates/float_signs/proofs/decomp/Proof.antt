@@ -69,7 +69,8 @@ above n h = omega arith
 high : (c : tie.Else3) → (biasedOf (v (c .before)) - 1 < 2046) × (odd 53 (lt (v (c .before)) O) (2 ^ 52 + fracOf (v (c .before))) (biasedOf (v (c .before)) - 1) 1074 ≡ v (c .before))
 high c =
     let x = v (c .before) in
-    large-field x (held (c .before .before .before .before)) (is-fin (c .before .before)) (not-zero (c .before)) (biasedOf x - 1) (above (biasedOf x) (λ (z : biasedOf x ≡ 0). c .if3 .left (biased-is x ∙ z)))
+    large-field x (held (c .before .before .before .before)) (is-fin (c .before .before)) (not-zero (c .before)) (biasedOf x - 1)
+    (above (biasedOf x) (λ (z : biasedOf x ≡ 0). c .if3 .left (biased-is x ∙ z)))
 
 parts-requires : tie.Need-parts-requires
 parts-requires c κs =

@@ -52,4 +52,5 @@ returns-7 c =
     ap₂ Point.Whole (toZ-ofZ x) (toZ-ofZ y) ∙ y-is (c .before .before .before) (c .before .second4 .given .1)
 
 pub take-in-point-spec : {M : Type 1} → statement M
-take-in-point-spec = tie.close (tie.spec (λ c κs. search needs) (λ c. search needs) (λ c. search needs) (λ c. search needs) (λ c. search needs) (λ c κs. search needs) (λ c. search needs) (λ c. search needs) (λ c. search needs) (λ c. search needs) returns returns-2 returns-3 returns-4 returns-5 returns-6 returns-7)
+take-in-point-spec = tie.close (tie.spec (λ c κs. search needs) (λ c. search needs) (λ c. search needs) (λ c. search needs) (λ c. search needs)
+    (λ c κs. search needs) (λ c. search needs) (λ c. search needs) (λ c. search needs) (λ c. search needs) returns returns-2 returns-3 returns-4 returns-5 returns-6 returns-7)

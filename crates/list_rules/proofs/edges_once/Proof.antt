@@ -29,7 +29,8 @@ is-last-requires c κs = (c .before .before .before .before .pre, c .loop-test .
 returns : tie.Need-returns Inv-loop μ-loop
 returns c =
     let s = c .before .before .before .before .before .before in
-    once-fails (s .args .list .now) (s .pre .whole) (c .before .before .before .loop .h) (c .before .before .loop-test .taken) (sym (c .before .is-last .ensures) ∙ not-true (c .before .is-last .result) (c .if1 .taken))
+    once-fails (s .args .list .now) (s .pre .whole) (c .before .before .before .loop .h) (c .before .before .loop-test .taken)
+    (sym (c .before .is-last .ensures) ∙ not-true (c .before .is-last .result) (c .if1 .taken))
 
 loop-again : tie.Need-loop-again Inv-loop μ-loop
 loop-again c =

@@ -23,7 +23,8 @@ met list i = anyTo (3 * triples list) (λ h. eqb (corner list h) i)
 -- an edge leaves i exactly if its head is not zero
 met-is : (n i : ℕ) (xs w : List ℕ) → Listed n xs w → i < n → (b : Bool) → eqb (getD w i 0) 0 ≡ b → met xs i ≡ not b
 met-is n i xs w ls l b h =
-    ap (λ (k : ℕ). anyTo k (λ h. eqb (corner xs h) i)) (whole-length xs (ls .whole)) ∙ last-any (λ h. eqb (corner xs h) i) (length xs) ∙ ap (λ (m : ℕ). not (eqb m 0)) (sym (ls .indexed .heads i l)) ∙ ap not h
+    ap (λ (k : ℕ). anyTo k (λ h. eqb (corner xs h) i)) (whole-length xs (ls .whole)) ∙ last-any (λ h. eqb (corner xs h) i) (length xs)
+    ∙ ap (λ (m : ℕ). not (eqb m 0)) (sym (ls .indexed .heads i l)) ∙ ap not h
 
 abbrev Inv-loop : tie.InvT-loop
 Inv-loop list work n i₀ i = (i ≤ n) × (allTo i (met list) ≡ true)
@@ -46,14 +47,18 @@ returns c =
     let s = c .before .before .before .before in
     let i = c .before .before .before .loop .i in
     let l = c .before .before .loop-test .taken in
-    sym (all-fails (met (s .args .list .now)) (s .args .n) i l (met-is (s .args .n) i (s .args .list .now) (s .args .work .now) (s .pre) l true (eq-eqb (getD (s .args .work .now) i 0) 0 (c .if1 .taken))))
+    sym (all-fails (met (s .args .list .now)) (s .args .n) i l
+    (met-is (s .args .n) i (s .args .list .now) (s .args .work .now) (s .pre) l true (eq-eqb (getD (s .args .work .now) i 0) 0 (c .if1 .taken))))
 
 loop-again : tie.Need-loop-again Inv-loop μ-loop
 loop-again c =
     let s = c .before .before .before .before in
     let l = c .before .before .before .loop in
-    let t = c .before .before .loop-test .taken in
-    (omega arith, all-more (met (s .args .list .now)) (l .i) (l .inv .1) (met-is (s .args .n) (l .i) (s .args .list .now) (s .args .work .now) (s .pre) t false (ne-eqb (getD (s .args .work .now) (l .i) 0) 0 (c .if1 .left))))
+    let t = c .before .before .loop-test .taken in (
+      omega arith,
+      all-more (met (s .args .list .now)) (l .i) (l .inv .1)
+          (met-is (s .args .n) (l .i) (s .args .list .now) (s .args .work .now) (s .pre) t false (ne-eqb (getD (s .args .work .now) (l .i) 0) 0 (c .if1 .left))),
+    )
 
 returns-2 : tie.Need-returns-2 Inv-loop μ-loop
 returns-2 c =

@@ -47,4 +47,6 @@ returns-2 c =
 pub scan-spec : {M : Type 1} → statement M
 scan-spec =
     tie.close
-    (tie.spec Inv-loop μ-loop loop-holds (λ c κs. let l = c .before in let s = l .before .before in (s .pre .0, (s .pre .1 .0, (s .pre .1 .1 .1, c .loop-test .taken, s .pre .1 .1 .0 .room)))) (λ c. omega arith) returns (λ c. omega arith) (λ c. omega arith) loop-again returns-2)
+    (tie.spec Inv-loop μ-loop loop-holds (λ c κs. let l = c .before in let s = l .before .before in
+    (s .pre .0, (s .pre .1 .0, (s .pre .1 .1 .1, c .loop-test .taken, s .pre .1 .1 .0 .room)))) (λ c. omega arith) returns (λ c. omega arith)
+    (λ c. omega arith) loop-again returns-2)

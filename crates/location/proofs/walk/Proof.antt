@@ -11,7 +11,8 @@ use Rattle.location.proofs.walk.Tie as tie
 -- what is left of the walk answers what the whole walk does
 abbrev Inv-loop : tie.InvT-loop
 Inv-loop points work count p newest left₀ t₀ left t =
-    (left ≤ 4 * count + 16) × (t < count) × (walk (point points) (netOf work count) (point points p) left (suc t) ≡ walk (point points) (netOf work count) (point points p) (4 * count + 16) (suc newest))
+    (left ≤ 4 * count + 16) × (t < count) × (walk (point points) (netOf work count) (point points p) left (suc t) ≡ walk (point points)
+    (netOf work count) (point points p) (4 * count + 16) (suc newest))
 
 abbrev μ-loop : tie.MeasureT-loop
 μ-loop points work count p newest left₀ t₀ left t = left
@@ -29,20 +30,26 @@ module _ (c : tie.After-loc-in-tri Inv-loop μ-loop) where
 
   low : c .loc-in-tri .result ≤ s .args .count + 1
   low =
-      omega
-      (arith, move-low (point (s .args .points .now)) (s .args .work .now) (s .args .count) (point (s .args .points .now) (s .args .p)) (l .loop .t) (s .pre .1 .1 .0) (l .loop .inv .1), c .loc-in-tri .ensures)
+      omega (
+        arith,
+        move-low (point (s .args .points .now)) (s .args .work .now) (s .args .count) (point (s .args .points .now) (s .args .p)) (l .loop .t)
+            (s .pre .1 .1 .0) (l .loop .inv .1),
+        c .loc-in-tri .ensures,
+      )
 
 returns : tie.Need-returns Inv-loop μ-loop
 returns c =
     let d = c .before in
     let x = s d .args in
-    here (point (x .points .now)) (netOf (x .work .now) (x .count)) (point (x .points .now) (x .p)) (l d .loop .t) (d .loc-in-tri .ensures) (l d .loop .left) (d .before .loop-test .taken) (c .if1 .taken) ∙ l d .loop .inv .2
+    here (point (x .points .now)) (netOf (x .work .now) (x .count)) (point (x .points .now) (x .p)) (l d .loop .t) (d .loc-in-tri .ensures)
+    (l d .loop .left) (d .before .loop-test .taken) (c .if1 .taken) ∙ l d .loop .inv .2
 
 returns-2 : tie.Need-returns-2 Inv-loop μ-loop
 returns-2 c =
     let d = c .before .before in
     let x = s d .args in
-    ends (point (x .points .now)) (netOf (x .work .now) (x .count)) (point (x .points .now) (x .p)) (l d .loop .t) (d .loc-in-tri .ensures) (l d .loop .left) (d .before .loop-test .taken) (c .if2 .taken) ∙ l d .loop .inv .2
+    ends (point (x .points .now)) (netOf (x .work .now) (x .count)) (point (x .points .now) (x .p)) (l d .loop .t) (d .loc-in-tri .ensures)
+    (l d .loop .left) (d .before .loop-test .taken) (c .if2 .taken) ∙ l d .loop .inv .2
 
 loop-again : tie.Need-loop-again Inv-loop μ-loop
 loop-again c =
@@ -51,7 +58,8 @@ loop-again c =
     let k = low d in (
       omega arith,
       omega arith,
-      on (point (x .points .now)) (netOf (x .work .now) (x .count)) (point (x .points .now) (x .p)) (l d .loop .t) (d .loc-in-tri .ensures) (l d .loop .left) (d .before .loop-test .taken) (c .before .if1 .left) (c .if2 .left) ∙ l d .loop .inv .2,
+      on (point (x .points .now)) (netOf (x .work .now) (x .count)) (point (x .points .now) (x .p)) (l d .loop .t) (d .loc-in-tri .ensures)
+          (l d .loop .left) (d .before .loop-test .taken) (c .before .if1 .left) (c .if2 .left) ∙ l d .loop .inv .2,
     )
 
 returns-3 : tie.Need-returns-3 Inv-loop μ-loop
@@ -65,4 +73,6 @@ pub walk-spec : {M : Type 1} → statement M
 walk-spec =
     tie.close
     (tie.spec Inv-loop μ-loop (λ c. omega arith) (λ c. omega arith) loop-holds
-    (λ c κs. let l = c .before in let s = l .before .before in (s .pre .0, (s .pre .1 .0, (s .pre .1 .1 .1 .0, l .loop .inv .1, s .pre .1 .1 .0 .room)))) (λ c. omega arith) returns returns-2 (λ c. omega arith) (λ c. omega arith) (λ c. omega arith) loop-again returns-3)
+    (λ c κs. let l = c .before in let s = l .before .before in
+    (s .pre .0, (s .pre .1 .0, (s .pre .1 .1 .1 .0, l .loop .inv .1, s .pre .1 .1 .0 .room)))) (λ c. omega arith) returns returns-2
+    (λ c. omega arith) (λ c. omega arith) (λ c. omega arith) loop-again returns-3)

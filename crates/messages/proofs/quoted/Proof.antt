@@ -16,4 +16,6 @@ pub quoted-spec : {M : Type 1} → statement M
 quoted-spec =
     tie.close
     (tie.spec Inv-loop μ-loop
-    (λ c κs. search needs) (λ c. omega arith) (λ c. omega arith) (λ c κs. search needs) (λ c κs. search needs) (λ c. search needs) (λ c. omega arith) (λ c. search needs) (λ c κs. search needs) (λ c. search needs) (λ c. omega arith) (λ c κs. search needs) (λ c κs. search needs) (λ c. omega arith) (λ c. omega arith) (λ c. omega arith) (λ c κs. search needs) (λ c. search needs))
+    (λ c κs. search needs) (λ c. omega arith) (λ c. omega arith) (λ c κs. search needs) (λ c κs. search needs) (λ c. search needs) (λ c. omega arith)
+    (λ c. search needs) (λ c κs. search needs) (λ c. search needs) (λ c. omega arith) (λ c κs. search needs) (λ c κs. search needs)
+    (λ c. omega arith) (λ c. omega arith) (λ c. omega arith) (λ c κs. search needs) (λ c. search needs))

@@ -24,7 +24,8 @@ loop-holds c = (omega arith, refl)
 returns : tie.Need-returns Inv-loop μ-loop
 returns c =
     let s = c .before .before .before .before .before in
-    sym (all-fails (leastFirst (s .args .list .now)) (triples (s .args .list .now)) (c .before .before .before .loop .t) (c .before .before .loop-test .taken) (sym (c .before .least-first .ensures) ∙ not-true (c .before .least-first .result) (c .if1 .taken)))
+    sym (all-fails (leastFirst (s .args .list .now)) (triples (s .args .list .now)) (c .before .before .before .loop .t)
+    (c .before .before .loop-test .taken) (sym (c .before .least-first .ensures) ∙ not-true (c .before .least-first .result) (c .if1 .taken)))
 
 loop-again : tie.Need-loop-again Inv-loop μ-loop
 loop-again c =

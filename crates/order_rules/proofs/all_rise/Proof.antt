@@ -25,7 +25,8 @@ returns : tie.Need-returns Inv-loop μ-loop
 returns c =
     let s = c .before .before .before .before .before in
     let l = c .before .before .loop-test .taken in
-    sym (all-fails (risesTo (s .args .list .now)) (triples (s .args .list .now) - 1) (c .before .before .before .loop .t) (omega arith) (sym (c .before .rises-to .ensures) ∙ not-true (c .before .rises-to .result) (c .if1 .taken)))
+    sym (all-fails (risesTo (s .args .list .now)) (triples (s .args .list .now) - 1) (c .before .before .before .loop .t) (omega arith)
+    (sym (c .before .rises-to .ensures) ∙ not-true (c .before .rises-to .result) (c .if1 .taken)))
 
 loop-again : tie.Need-loop-again Inv-loop μ-loop
 loop-again c =

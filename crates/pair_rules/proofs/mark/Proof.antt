@@ -36,7 +36,8 @@ spot c =
 returns : tie.Need-returns
 returns c =
     let s = s (c .before .before .before) in (
-      sym (last-any (λ h. edgeIs (s .args .list .now) h (s .args .u) (s .args .v)) (length (s .args .list .now)) ∙ ap (λ (m : ℕ). not (eqb m 0)) (found-at c) ∙ ap not (eqb·suc-zero (c .before .found .given .0 .0))),
+      sym (last-any (λ h. edgeIs (s .args .list .now) h (s .args .u) (s .args .v)) (length (s .args .list .now))
+          ∙ ap (λ (m : ℕ). not (eqb m 0)) (found-at c) ∙ ap not (eqb·suc-zero (c .before .found .given .0 .0))),
       paints (s .args .n) (s .args .list .now) (s .args .work .now) (s .pre .0) (s .pre .1) (s .pre .2) (s .args .u) (s .args .v) (c .before .found .given .0 .0) (found-at c),
     )
 
@@ -50,5 +51,6 @@ returns-2 c =
 pub mark-spec : {M : Type 1} → statement M
 mark-spec =
     tie.close
-    (tie.spec (λ c κs. search needs) (λ c. search needs) (λ c. record { fits = let a = spot c in omega arith }) (λ c. record { fits = let a = spot c in omega arith }) (λ c. record { fits = let a = spot c in omega arith })
+    (tie.spec (λ c κs. search needs) (λ c. search needs) (λ c. record { fits = let a = spot c in omega arith })
+    (λ c. record { fits = let a = spot c in omega arith }) (λ c. record { fits = let a = spot c in omega arith })
     spot (λ c. search needs) (λ c. search needs) returns (λ c. search needs) returns-2)

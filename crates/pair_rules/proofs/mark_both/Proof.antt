@@ -28,18 +28,25 @@ module _ (c : tie.After-mark) where
 mark-requires-2 : tie.Need-mark-requires-2
 mark-requires-2 c κs =
     let m = c .before .before .before in
-    let s = s m in
-    (painted-listed (s .args .n) (s .args .list .now) _ (s .args .work .now) (m .mark .last .1 .0) (s .pre .0) (s .pre .1) (first m), painted-room (s .args .n) (s .args .list .now) _ (s .args .work .now) (m .mark .last .1 .0) (s .pre .1) (first m), s .pre .2, s .pre .4)
+    let s = s m in (
+      painted-listed (s .args .n) (s .args .list .now) _ (s .args .work .now) (m .mark .last .1 .0) (s .pre .0) (s .pre .1) (first m),
+      painted-room (s .args .n) (s .args .list .now) _ (s .args .work .now) (m .mark .last .1 .0) (s .pre .1) (first m),
+      s .pre .2,
+      s .pre .4,
+    )
 
 -- after both
 module _ (c : tie.After-mark2) where
   abbrev m : tie.After-mark
   m = c .before .before .before .before
 
-  both : Painted (s m .args .n) (s m .args .list .now) (λ h. edgeIs (s m .args .list .now) h (s m .args .u) (s m .args .v) || edgeIs (s m .args .list .now) h (s m .args .v) (s m .args .u)) (s m .args .work .now) (c .mark2 .last .1 .0)
-  both = paint-both (s m .args .n) (s m .args .list .now) (λ h. edgeIs (s m .args .list .now) h (s m .args .u) (s m .args .v)) (λ h. edgeIs (s m .args .list .now) h (s m .args .v) (s m .args .u)) (s m .args .work .now) (m .mark .last .1 .0) (c .mark2 .last .1 .0) (first m) (c .mark2 .ensures .1)
+  both : Painted (s m .args .n) (s m .args .list .now) (λ h. edgeIs (s m .args .list .now) h (s m .args .u) (s m .args .v) || edgeIs
+      (s m .args .list .now) h (s m .args .v) (s m .args .u)) (s m .args .work .now) (c .mark2 .last .1 .0)
+  both = paint-both (s m .args .n) (s m .args .list .now) (λ h. edgeIs (s m .args .list .now) h (s m .args .u) (s m .args .v))
+      (λ h. edgeIs (s m .args .list .now) h (s m .args .v) (s m .args .u)) (s m .args .work .now) (m .mark .last .1 .0) (c .mark2 .last .1 .0) (first m) (c .mark2 .ensures .1)
 
-  answer : (m .mark .result || c .mark2 .result) ≡ anyTo (length (s m .args .list .now)) (λ h. edgeIs (s m .args .list .now) h (s m .args .u) (s m .args .v) || edgeIs (s m .args .list .now) h (s m .args .v) (s m .args .u))
+  answer : (m .mark .result || c .mark2 .result) ≡ anyTo (length (s m .args .list .now))
+      (λ h. edgeIs (s m .args .list .now) h (s m .args .u) (s m .args .v) || edgeIs (s m .args .list .now) h (s m .args .v) (s m .args .u))
   answer = either (s m .args .list .now) (s m .args .u) (s m .args .v) (m .mark .result) (c .mark2 .result) (m .mark .ensures .0) (c .mark2 .ensures .0)
 
 returns : tie.Need-returns

@@ -38,8 +38,13 @@ mark-both-requires c κs =
     let l = i .before .loop in
     let s = i .before .before .before .before .before in
     let p = l .inv .2 in
-    let t = i .loop-test .taken in
-    (painted-listed (s .args .n) (s .args .list .now) _ (s .args .work .now) (l .work) (s .pre .0) (s .pre .1) p, painted-room (s .args .n) (s .args .list .now) _ (s .args .work .now) (l .work) (s .pre .1) p, s .pre .2, s .pre .3 (2 * l .k) (omega arith), s .pre .3 (2 * l .k + 1) (omega arith))
+    let t = i .loop-test .taken in (
+      painted-listed (s .args .n) (s .args .list .now) _ (s .args .work .now) (l .work) (s .pre .0) (s .pre .1) p,
+      painted-room (s .args .n) (s .args .list .now) _ (s .args .work .now) (l .work) (s .pre .1) p,
+      s .pre .2,
+      s .pre .3 (2 * l .k) (omega arith),
+      s .pre .3 (2 * l .k + 1) (omega arith),
+    )
 
 -- ---- after the call
 module _ (c : tie.After-mark-both Inv-loop μ-loop) where
@@ -50,7 +55,8 @@ module _ (c : tie.After-mark-both Inv-loop μ-loop) where
   k = c .before .before .before .before .before .loop .k
 
   painted : Painted (s .args .n) (s .args .list .now) (pairTo (s .args .pairs .now) (s .args .list .now) (k + 1)) (s .args .work .now) (c .mark-both .last .1 .0)
-  painted = paint-more (s .args .n) (s .args .pairs .now) (s .args .list .now) k (s .args .work .now) (c .before .before .before .before .before .loop .work) (c .mark-both .last .1 .0) (c .before .before .before .before .before .loop .inv .2) (c .mark-both .ensures .1)
+  painted = paint-more (s .args .n) (s .args .pairs .now) (s .args .list .now) k (s .args .work .now)
+      (c .before .before .before .before .before .loop .work) (c .mark-both .last .1 .0) (c .before .before .before .before .before .loop .inv .2) (c .mark-both .ensures .1)
 
   answer : (b : Bool) → c .mark-both .result ≡ b → met (s .args .pairs .now) (s .args .list .now) k ≡ b
   answer b h = met-is (s .args .pairs .now) (s .args .list .now) k (c .mark-both .result) b (s .pre .0 .whole) (c .mark-both .ensures .0) h

@@ -81,7 +81,8 @@ returns c =
     let j = a d .loop-test .left in
     let m = p .1 .3 in
     let whole : a d .before .loop .t ≡ triples (x .list .now) = omega arith in
-    sum-test (x .points .now) (p .0) (x .list .now) (omega arith) _ (a d .before .loop .inv .1 ∙ ap (λ (k : ℕ). ofZ w64 (sumTo k (tripleArea (x .points .now) (x .list .now)))) whole) _ _ (base-area (base d)) (c .twice-area2 .ensures)
+    sum-test (x .points .now) (p .0) (x .list .now) (omega arith) _
+    (a d .before .loop .inv .1 ∙ ap (λ (k : ℕ). ofZ w64 (sumTo k (tripleArea (x .points .now) (x .list .now)))) whole) _ _ (base-area (base d)) (c .twice-area2 .ensures)
 
 pub areas-fill-spec : {M : Type 1} → statement M
 areas-fill-spec =

@@ -63,7 +63,8 @@ module _ (t : tie.After-known-told) where
   abbrev many : ℕ
   many = t .before .many .given .0 .0
 
-  whole : WholeW (point (ps r)) (pointCount (ps r)) (s r .args .count) (endA (qs r) (s r .args .k)) (endB (qs r) (s r .args .k)) (w r) (s r .args .x) many (w1 r) × Kept (pointCount (ps r)) (w r) (w1 r)
+  whole : WholeW (point (ps r)) (pointCount (ps r)) (s r .args .count) (endA (qs r) (s r .args .k)) (endB (qs r) (s r .args .k)) (w r) (s r .args .x)
+      many (w1 r) × Kept (pointCount (ps r)) (w r) (w1 r)
   whole = ran-in (point (ps r)) (pointCount (ps r)) (s r .args .count) (r .before .before .before .at .ensures) (r .before .before .at2 .ensures) (r .recover .ensures) (t .before .many .given .1)
 
 sub-slot : tie.Need-sub-slot
@@ -84,7 +85,8 @@ module _ (q : tie.After-slot) where
   root-is = q .slot .ensures
 
 mul-mark : tie.Need-mul-mark
-mul-mark c = let q = c .before in let e = root-is q in let l = h-low (lined (r (t q))) (leaves (r (t q))) (whole (t q) .0) (whole (t q) .1) in let f = lined (r (t q)) .room .less in let g = lined (r (t q)) .figure .few in omega arith
+mul-mark c = let q = c .before in let e = root-is q in let l = h-low (lined (r (t q))) (leaves (r (t q))) (whole (t q) .0) (whole (t q) .1) in
+    let f = lined (r (t q)) .room .less in let g = lined (r (t q)) .figure .few in omega arith
 
 mark-requires : tie.Need-mark-requires
 mark-requires c κs = let q = c .before in rw (root-is q) (can-mark (lined (r (t q))) (leaves (r (t q))) (whole (t q) .0) (whole (t q) .1))
@@ -97,7 +99,8 @@ module _ (m : tie.After-mark) where
   abbrev w2 : List ℕ
   w2 = m .mark .last .0
 
-  marked : m .mark .last .0 ≡ markW (w1 (r (t q))) (3 * slotOf (pointCount (ps (r (t q)))) (w1 (r (t q))) (many (t q) - 1)) (adj (w1 (r (t q))) (3 * slotOf (pointCount (ps (r (t q)))) (w1 (r (t q))) (many (t q) - 1)))
+  marked : m .mark .last .0 ≡ markW (w1 (r (t q))) (3 * slotOf (pointCount (ps (r (t q)))) (w1 (r (t q))) (many (t q) - 1))
+      (adj (w1 (r (t q))) (3 * slotOf (pointCount (ps (r (t q)))) (w1 (r (t q))) (many (t q) - 1)))
   marked = m .mark .ensures ∙ ap (λ (x : ℕ). markW (w1 (r (t q))) (3 * x) (adj (w1 (r (t q))) (3 * x))) (root-is q)
 
 suspect-all-requires : tie.Need-suspect-all-requires
@@ -117,10 +120,12 @@ returns-2 c =
     let v = g .before .before .before .before in
     let m = v .before .before .before .before in
     let t' = t (q m) in
-    line-in (lined (r t')) (leaves (r t')) (whole t' .0) (whole t' .1) (marked m) (v .suspect-all .ensures) (g .legalize-suspects .ensures .1) (g .legalize-suspects .ensures .2) (g .legalize-suspects .ensures .3)
+    line-in (lined (r t')) (leaves (r t')) (whole t' .0) (whole t' .1) (marked m) (v .suspect-all .ensures) (g .legalize-suspects .ensures .1)
+    (g .legalize-suspects .ensures .2) (g .legalize-suspects .ensures .3)
 
 pub recover-line-spec : {M : Type 1} → statement M
 recover-line-spec =
     tie.close
-    (tie.spec (λ c. search needs) (λ c κs. search needs) (λ c. search needs) (λ c. search needs) (λ c κs. search needs) recover-requires (λ c. search needs) (λ c. search needs) (λ c. search needs) returns
+    (tie.spec (λ c. search needs) (λ c κs. search needs) (λ c. search needs) (λ c. search needs) (λ c κs. search needs) recover-requires
+    (λ c. search needs) (λ c. search needs) (λ c. search needs) returns
     sub-slot slot-requires mul-mark mark-requires suspect-all-requires legalize-suspects-requires (λ c. search needs) returns-2)

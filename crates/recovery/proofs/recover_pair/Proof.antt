@@ -50,8 +50,11 @@ module _ (r : tie.After-look-around) where
 
 returns : tie.Need-returns
 returns c =
-    let r = c .before .before in
-    (no-way (lined r) (nothing (Neither (P r) (m r) (a r) (b r)) (P r) (m r) (a r) (b r) (r .look-around .result) (c .before .match .keys2) (c .match2 .keys2) (answer r)), kept-same (pointCount (s r .args .points .now)) (s r .args .work .now))
+    let r = c .before .before in (
+      no-way (lined r) (nothing (Neither (P r) (m r) (a r) (b r)) (P r) (m r) (a r) (b r) (r .look-around .result) (c .before .match .keys2)
+          (c .match2 .keys2) (answer r)),
+      kept-same (pointCount (s r .args .points .now)) (s r .args .work .now),
+    )
 
 -- an entry edge
 module _ (t : tie.After-known-told2) where
@@ -82,7 +85,8 @@ module _ (t : tie.After-known-told) where
   edge : Names (m r1) (Between (m r1) (a r1) (b r1)) (t .before .met .given .0 .0) (t .before .met .given .0 .1 .0)
   edge = edge-told (Neither (P r1) (m r1) (a r1) (b r1)) (P r1) (m r1) (a r1) (b r1) (t .before .met .given .1) (answer r1)
 
-edge-small : (t : tie.After-known-told) → (t .before .met .given .0 .0 < 8192) × (t .before .met .given .0 .1 .0 < 3) × (3 * t .before .met .given .0 .0 + t .before .met .given .0 .1 .0 < 3 * s (r1 t) .args .count)
+edge-small : (t : tie.After-known-told) → (t .before .met .given .0 .0 < 8192) × (t .before .met .given .0 .1 .0 < 3) ×
+    (3 * t .before .met .given .0 .0 + t .before .met .given .0 .1 .0 < 3 * s (r1 t) .args .count)
 unfolding netOf
 edge-small t = let l = lined (r1 t) in let a = edge t .0 in let b = l .room .less in let d = l .figure .few in let e = edge t .1 in (omega arith, edge t .1, omega arith)
 
@@ -104,5 +108,6 @@ returns-3 c =
 pub recover-pair-spec : {M : Type 1} → statement M
 recover-pair-spec =
     tie.close
-    (tie.spec (λ c. search needs) (λ c κs. search needs) (λ c. search needs) (λ c. search needs) (λ c κs. search needs) look-around-requires (λ c. search needs) (λ c. search needs) (λ c. search needs) returns
+    (tie.spec (λ c. search needs) (λ c κs. search needs) (λ c. search needs) (λ c. search needs) (λ c κs. search needs) look-around-requires
+    (λ c. search needs) (λ c. search needs) (λ c. search needs) returns
     mul-recover-line add-recover-line recover-line-requires (λ c. search needs) (λ c. search needs) mul-mark add-mark mark-requires (λ c. search needs) returns-3)

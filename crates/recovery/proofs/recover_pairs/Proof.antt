@@ -77,8 +77,11 @@ returns-2 c =
     let l = c .before in
     let s' = l .before .before .before in
     let a = c .loop-test .left in
-    let b = l .loop .inv .2 in
-    (subst (λ (k : ℕ). Lined (s' .args .points .now) (s' .args .pairs .now) k (l .loop .work) (s' .args .count)) (let e : l .loop .k ≡ pairCount (s' .args .pairs .now) = omega arith in e) (l .loop .inv .0), l .loop .inv .1)
+    let b = l .loop .inv .2 in (
+      subst (λ (k : ℕ). Lined (s' .args .points .now) (s' .args .pairs .now) k (l .loop .work) (s' .args .count))
+          (let e : l .loop .k ≡ pairCount (s' .args .pairs .now) = omega arith in e) (l .loop .inv .0),
+      l .loop .inv .1,
+    )
 
 pub recover-pairs-spec : {M : Type 1} → statement M
 recover-pairs-spec =

@@ -25,7 +25,8 @@ first : (c : tie.After-all-within) (b : Bool) → c .all-within .result ≡ b
     → three limit (at (c .before .args .ax) (c .before .args .ay)) (at (c .before .args .bx) (c .before .args .by)) (at (c .before .args .cx) (c .before .args .cy)) ≡ b
 first c b h =
     let s = c .before in
-    sym (three-read limit (s .args .ax) (s .args .ay) (s .args .bx) (s .args .by) (s .args .cx) (s .args .cy) (s .fits .ax, (s .fits .ay, (s .fits .bx, (s .fits .by, (s .fits .cx, (s .fits .cy, tt))))))) ∙ sym (c .all-within .ensures) ∙ h
+    sym (three-read limit (s .args .ax) (s .args .ay) (s .args .bx) (s .args .by) (s .args .cx) (s .args .cy)
+    (s .fits .ax, (s .fits .ay, (s .fits .bx, (s .fits .by, (s .fits .cx, (s .fits .cy, tt))))))) ∙ sym (c .all-within .ensures) ∙ h
 
 second : (c : tie.After-within) (b : Bool) → c .within .result ≡ b → within limit (at (c .before .before .before .args .dx) (c .before .before .before .args .dy)) ≡ b
 second c b h =
@@ -45,7 +46,8 @@ returns c =
     let w = c .before .before in
     let s = w .before .before .before in
     circle-known limit _ _ _ _ (first (w .before .before) true (w .before .if1 .taken)) (second w true (c .before .if2 .taken))
-    (c .circle-work .ensures ∙ ap (λ (xs : List ℤ). signZ (incircle (at (look xs 0) (look xs 1)) (at (look xs 2) (look xs 3)) (at (look xs 4) (look xs 5)) (at (look xs 6) (look xs 7)))) (backs-fit w32 (ρ s) (fit s)))
+    (c .circle-work .ensures ∙ ap (λ (xs : List ℤ). signZ (incircle (at (look xs 0) (look xs 1)) (at (look xs 2) (look xs 3))
+    (at (look xs 4) (look xs 5)) (at (look xs 6) (look xs 7)))) (backs-fit w32 (ρ s) (fit s)))
 
 returns-2 : tie.Need-returns-2
 returns-2 c =

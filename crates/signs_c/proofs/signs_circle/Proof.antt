@@ -20,7 +20,10 @@ fit c = (c .fits .ax, (c .fits .ay, (c .fits .bx, (c .fits .by, (c .fits .cx, (c
 returns : tie.Need-returns
 returns c =
     let s = c .before .before in
-    whole-read (c .before .circle-sign .result) (c .number-of .ensures) ∙ ap wholeNumber (c .before .circle-sign .ensures ∙ ap (λ (xs : List ℤ). circleAnswer limit (at (look xs 0) (look xs 1)) (at (look xs 2) (look xs 3)) (at (look xs 4) (look xs 5)) (at (look xs 6) (look xs 7))) (backs-fit w32 (ρ s) (fit s)))
+    whole-read (c .before .circle-sign .result) (c .number-of .ensures)
+    ∙ ap wholeNumber (c .before .circle-sign .ensures ∙ ap
+    (λ (xs : List ℤ). circleAnswer limit (at (look xs 0) (look xs 1)) (at (look xs 2) (look xs 3)) (at (look xs 4) (look xs 5))
+    (at (look xs 6) (look xs 7))) (backs-fit w32 (ρ s) (fit s)))
 
 pub signs-circle-spec : {M : Type 1} → statement M
 signs-circle-spec = tie.close (tie.spec (λ c κs. search needs) (λ c κs. search needs) returns)

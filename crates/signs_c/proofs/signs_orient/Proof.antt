@@ -20,7 +20,9 @@ fit c = (c .fits .ax, (c .fits .ay, (c .fits .bx, (c .fits .by, (c .fits .cx, (c
 returns : tie.Need-returns
 returns c =
     let s = c .before .before in
-    whole-read (c .before .orient-sign .result) (c .number-of .ensures) ∙ ap wholeNumber (c .before .orient-sign .ensures ∙ ap (λ (xs : List ℤ). orientAnswer limit (at (look xs 0) (look xs 1)) (at (look xs 2) (look xs 3)) (at (look xs 4) (look xs 5))) (backs-fit w32 (ρ s) (fit s)))
+    whole-read (c .before .orient-sign .result) (c .number-of .ensures)
+    ∙ ap wholeNumber (c .before .orient-sign .ensures ∙ ap
+    (λ (xs : List ℤ). orientAnswer limit (at (look xs 0) (look xs 1)) (at (look xs 2) (look xs 3)) (at (look xs 4) (look xs 5))) (backs-fit w32 (ρ s) (fit s)))
 
 pub signs-orient-spec : {M : Type 1} → statement M
 signs-orient-spec = tie.close (tie.spec (λ c κs. search needs) (λ c κs. search needs) returns)

@@ -8,7 +8,13 @@ use Rattle.splitting.proofs.split_both.Tie as tie
 
 returns : tie.Need-returns
 unfolding edgePushed
-returns c = rw (c .before .before .push4 .ensures, c .before .before .before .before .before .before .push3 .ensures, c .before .before .before .before .before .before .before .before .before .before .push2 .ensures, c .before .before .before .before .before .before .before .before .before .before .before .before .before .before .push .ensures, c .before .before .before .before .before .before .before .before .before .before .before .before .before .before .before .before .before .before .split-edge .ensures)
+returns c = rw (
+  c .before .before .push4 .ensures,
+  c .before .before .before .before .before .before .push3 .ensures,
+  c .before .before .before .before .before .before .before .before .before .before .push2 .ensures,
+  c .before .before .before .before .before .before .before .before .before .before .before .before .before .before .push .ensures,
+  c .before .before .before .before .before .before .before .before .before .before .before .before .before .before .before .before .before .before .split-edge .ensures,
+)
 
 pub split-both-spec : {M : Type 1} → statement M
 split-both-spec =

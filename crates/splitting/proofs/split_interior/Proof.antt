@@ -8,7 +8,12 @@ use Rattle.splitting.proofs.split_interior.Tie as tie
 
 returns : tie.Need-returns
 unfolding insidePushed
-returns c = rw (c .before .before .push3 .ensures, c .before .before .before .before .before .before .push2 .ensures, c .before .before .before .before .before .before .before .before .before .before .push .ensures, c .before .before .before .before .before .before .before .before .before .before .before .before .before .before .split-interior .ensures)
+returns c = rw (
+  c .before .before .push3 .ensures,
+  c .before .before .before .before .before .before .push2 .ensures,
+  c .before .before .before .before .before .before .before .before .before .before .push .ensures,
+  c .before .before .before .before .before .before .before .before .before .before .before .before .before .before .split-interior .ensures,
+)
 
 pub split-interior-spec : {M : Type 1} → statement M
 split-interior-spec =

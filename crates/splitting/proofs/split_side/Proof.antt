@@ -8,7 +8,11 @@ use Rattle.splitting.proofs.split_side.Tie as tie
 
 returns : tie.Need-returns
 unfolding sidePushed
-returns c = rw (c .before .before .push2 .ensures, c .before .before .before .before .before .before .push .ensures, c .before .before .before .before .before .before .before .before .before .before .split-side .ensures)
+returns c = rw (
+  c .before .before .push2 .ensures,
+  c .before .before .before .before .before .before .push .ensures,
+  c .before .before .before .before .before .before .before .before .before .before .split-side .ensures,
+)
 
 pub split-side-spec : {M : Type 1} → statement M
 split-side-spec =

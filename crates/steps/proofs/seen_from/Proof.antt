@@ -7,7 +7,8 @@ use Rattle.steps.proofs.seen_from.Tie as tie
 returns : tie.Need-returns
 returns c =
     let s = c .before .before .before .before .before .before .before .before .before .before .before .before in
-    let e = seen-read (s .args .work .now) (s .args .h) (c .before .before .before .before .before .before .before .before .before .before .next .ensures) (c .before .before .before .before .before .before .before .before .before .previous .ensures) in
+    let e = seen-read (s .args .work .now) (s .args .h) (c .before .before .before .before .before .before .before .before .before .before .next .ensures)
+    (c .before .before .before .before .before .before .before .before .before .previous .ensures) in
     (e, rw e (seen-low (s .args .work .now) (s .args .h) (s .args .count) (s .pre .0) (s .pre .1)))
 
 pub seen-from-spec : {M : Type 1} → statement M

@@ -18,7 +18,8 @@ take-out-requires : tie.Need-take-out-requires
 take-out-requires c κs = let s = c .before .before in let a = few s in let p = s .pre .0 in ((omega arith, omega arith, omega arith, omega arith), s .pre .1 .0)
 
 push-requires : tie.Need-push-requires
-push-requires c κs = let d = c .before .before .before in let a = less d in let b = d .take-out .ensures .len in let p = d .before .before .before .pre .0 in (omega arith, omega arith, omega arith, omega arith)
+push-requires c κs = let d = c .before .before .before in let a = less d in let b = d .take-out .ensures .len in
+    let p = d .before .before .before .pre .0 in (omega arith, omega arith, omega arith, omega arith)
 
 push-requires-2 : tie.Need-push-requires-2
 push-requires-2 c κs =

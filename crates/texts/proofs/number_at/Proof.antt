@@ -13,14 +13,16 @@ returns-2 c =
     let k = c .before .before in
     let d = k .before .before in
     let s = d .before .before .before in
-    number-is (s .args .text .now) (s .args .start) (s .args .minus) (s .args .i) (s .args .end) (k .d .given .0 .0) (sym (d .read-digits .ensures) ∙ k .d .given .1) (d .before .if1 .left) (c .if2 .taken)
+    number-is (s .args .text .now) (s .args .start) (s .args .minus) (s .args .i) (s .args .end) (k .d .given .0 .0)
+    (sym (d .read-digits .ensures) ∙ k .d .given .1) (d .before .if1 .left) (c .if2 .taken)
 
 returns-3 : tie.Need-returns-3
 returns-3 c =
     let k = c .before .before in
     let d = k .before .before in
     let s = d .before .before .before in
-    number-big (s .args .text .now) (s .args .start) (s .args .minus) (s .args .i) (s .args .end) (k .d .given .0 .0) (sym (d .read-digits .ensures) ∙ k .d .given .1) (d .before .if1 .left) (c .if2 .left)
+    number-big (s .args .text .now) (s .args .start) (s .args .minus) (s .args .i) (s .args .end) (k .d .given .0 .0)
+    (sym (d .read-digits .ensures) ∙ k .d .given .1) (d .before .if1 .left) (c .if2 .left)
 
 returns-4 : tie.Need-returns-4
 returns-4 c =

@@ -40,8 +40,11 @@ loop-less c = omega arith
 loop-again : tie.Need-loop-again Inv-loop μ-loop
 loop-again c =
     let l = c .before .before .before .before .before .before .loop in
-    let s = c .before .before .before .before .before .before .before .before in
-    (omega arith, read-more (s .args .text .now) (s .args .from) (l .i) (l .v) (l .inv .1) (c .more .result) (sym (c .before .before .before .is-digit .ensures) ∙ c .before .before .if1 .taken) (c .more .ensures))
+    let s = c .before .before .before .before .before .before .before .before in (
+      omega arith,
+      read-more (s .args .text .now) (s .args .from) (l .i) (l .v) (l .inv .1) (c .more .result)
+          (sym (c .before .before .before .is-digit .ensures) ∙ c .before .before .if1 .taken) (c .more .ensures),
+    )
 
 returns : tie.Need-returns Inv-loop μ-loop
 returns c =

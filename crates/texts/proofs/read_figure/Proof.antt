@@ -39,7 +39,9 @@ returns c =
     let f = t .before .before in
     let u = f .before .before in
     let a = u .before .before .before .args in
-    r .read-rest .ensures ∙ figure-rest (a .text .now) (a .points .now) (a .pairs .now) (f .first .given .0 .0) (f .first .given .0 .1 .0) (f .first .given .0 .1 .1 .0) (sym (u .take-number .ensures) ∙ f .first .given .1) (k .second .given .0 .0) (k .second .given .0 .1 .0) (k .second .given .0 .1 .1 .0) (sym (t .take-number2 .ensures) ∙ k .second .given .1)
+    r .read-rest .ensures ∙ figure-rest (a .text .now) (a .points .now) (a .pairs .now) (f .first .given .0 .0) (f .first .given .0 .1 .0)
+    (f .first .given .0 .1 .1 .0) (sym (u .take-number .ensures) ∙ f .first .given .1) (k .second .given .0 .0) (k .second .given .0 .1 .0)
+    (k .second .given .0 .1 .1 .0) (sym (t .take-number2 .ensures) ∙ k .second .given .1)
 
 enum-known-second-2 : tie.Need-enum-known-second-2
 enum-known-second-2 c = search needs
@@ -51,7 +53,8 @@ returns-2 c =
     let f = t .before .before in
     let u = f .before .before in
     let a = u .before .before .before .args in
-    figure-second (a .text .now) (a .points .now) (a .pairs .now) (f .first .given .0 .0) (f .first .given .0 .1 .0) (f .first .given .0 .1 .1 .0) (sym (u .take-number .ensures) ∙ f .first .given .1) (k .second2 .given .0 .0) (sym (t .take-number2 .ensures) ∙ k .second2 .given .1)
+    figure-second (a .text .now) (a .points .now) (a .pairs .now) (f .first .given .0 .0) (f .first .given .0 .1 .0) (f .first .given .0 .1 .1 .0)
+    (sym (u .take-number .ensures) ∙ f .first .given .1) (k .second2 .given .0 .0) (sym (t .take-number2 .ensures) ∙ k .second2 .given .1)
 
 enum-known-first-2 : tie.Need-enum-known-first-2
 enum-known-first-2 c = search needs

@@ -14,7 +14,8 @@ use Rattle.texts.proofs.read_pairs.Statement.{statement}
 use Rattle.texts.proofs.read_pairs.Tie as tie
 
 abbrev Inv-loop : tie.InvT-loop
-Inv-loop text from pairs₀ count i₀ p₀ pairs i p = (length pairs ≡ length pairs₀) × (readAll false text from count ≡ readAll false text i (count - p)) × (putPairs text from 0 count pairs₀ ≡ putPairs text i p (count - p) pairs)
+Inv-loop text from pairs₀ count i₀ p₀ pairs i p = (length pairs ≡ length pairs₀) ×
+    (readAll false text from count ≡ readAll false text i (count - p)) × (putPairs text from 0 count pairs₀ ≡ putPairs text i p (count - p) pairs)
 
 abbrev μ-loop : tie.MeasureT-loop
 μ-loop text from pairs₀ count i₀ p₀ pairs i p = count - p
@@ -102,8 +103,10 @@ same-length-2 c = c .before .loop .inv .0
 returns-2 : tie.Need-returns-2 Inv-loop μ-loop
 returns-2 c =
     let l = c .before .loop in
-    let a = c .before .before .before .before .args in
-    (sym (l .inv .1 ∙ laws.read-end (a .text .now) (l .i) (l .p) (a .count) false (c .loop-test .left)), sym (l .inv .2 ∙ laws.pairs-end (a .text .now) (l .i) (l .p) (a .count) (l .pairs) (c .loop-test .left)))
+    let a = c .before .before .before .before .args in (
+      sym (l .inv .1 ∙ laws.read-end (a .text .now) (l .i) (l .p) (a .count) false (c .loop-test .left)),
+      sym (l .inv .2 ∙ laws.pairs-end (a .text .now) (l .i) (l .p) (a .count) (l .pairs) (c .loop-test .left)),
+    )
 
 pub read-pairs-spec : {M : Type 1} → statement M
 read-pairs-spec =

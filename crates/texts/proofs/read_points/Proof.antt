@@ -15,7 +15,8 @@ use Rattle.texts.proofs.read_points.Statement.{statement}
 use Rattle.texts.proofs.read_points.Tie as tie
 
 abbrev Inv-loop : tie.InvT-loop
-Inv-loop text from points₀ count i₀ p₀ points i p = (length points ≡ length points₀) × (readAll true text from count ≡ readAll true text i (count - p)) × (putPoints text from 0 count points₀ ≡ putPoints text i p (count - p) points)
+Inv-loop text from points₀ count i₀ p₀ points i p = (length points ≡ length points₀) ×
+    (readAll true text from count ≡ readAll true text i (count - p)) × (putPoints text from 0 count points₀ ≡ putPoints text i p (count - p) points)
 
 abbrev μ-loop : tie.MeasureT-loop
 μ-loop text from points₀ count i₀ p₀ points i p = count - p
@@ -87,7 +88,8 @@ loop-again c =
     let z = laws.signed-back (g .0 .0) (g .0 .1 .0) (c .with-sign .result) (laws.taken-size (nextWord (text t) (i t)) (g .0 .0) (g .0 .1 .0) (g .0 .1 .1 .0) k) (c .with-sign .ensures) in (
       length-set (l .points) (p t) _ ∙ l .inv .0,
       l .inv .1 ∙ laws.read-go (text t) (i t) (p t) (count t) true (test t) (g .0 .0) (g .0 .1 .0) (g .0 .1 .1 .0) k,
-      l .inv .2 ∙ laws.points-go (text t) (i t) (p t) (count t) (l .points) (test t) (g .0 .0) (g .0 .1 .0) (g .0 .1 .1 .0) k ∙ ap (λ (x : ℤ). putPoints (text t) (g .0 .1 .1 .0) (p t + 1) (count t - (p t + 1)) (set (l .points) (p t) x)) (sym z),
+      l .inv .2 ∙ laws.points-go (text t) (i t) (p t) (count t) (l .points) (test t) (g .0 .0) (g .0 .1 .0) (g .0 .1 .1 .0) k
+          ∙ ap (λ (x : ℤ). putPoints (text t) (g .0 .1 .1 .0) (p t + 1) (count t - (p t + 1)) (set (l .points) (p t) x)) (sym z),
     )
 
 enum-known-s-2 : tie.Need-enum-known-s-2 Inv-loop μ-loop
@@ -110,8 +112,10 @@ same-length-2 c = c .before .loop .inv .0
 returns-2 : tie.Need-returns-2 Inv-loop μ-loop
 returns-2 c =
     let l = c .before .loop in
-    let a = c .before .before .before .args in
-    (sym (l .inv .1 ∙ laws.read-end (a .text .now) (l .i) (l .p) (a .count) true (c .loop-test .left)), sym (l .inv .2 ∙ laws.points-end (a .text .now) (l .i) (l .p) (a .count) (l .points) (c .loop-test .left)))
+    let a = c .before .before .before .args in (
+      sym (l .inv .1 ∙ laws.read-end (a .text .now) (l .i) (l .p) (a .count) true (c .loop-test .left)),
+      sym (l .inv .2 ∙ laws.points-end (a .text .now) (l .i) (l .p) (a .count) (l .points) (c .loop-test .left)),
+    )
 
 pub read-points-spec : {M : Type 1} → statement M
 read-points-spec =

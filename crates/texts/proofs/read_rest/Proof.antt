@@ -45,7 +45,9 @@ returns-3 c =
     let r = k .before .before .before in
     let e = r .before .before in
     let a = e .before .before .before .before .args in
-    same-outcome _ _ _ _ _ _ (t .read-tail .ensures .0) (r .read-points .ensures .1) (t .read-tail .ensures .1) ∙ rest-done (a .text .now) (a .n) (a .m) (a .from) (a .points .now) (a .pairs .now) (e .before .if1 .left) (e .if2 .left) (k .p .given .0 .0) (sym (r .read-points .ensures .0) ∙ k .p .given .1)
+    same-outcome _ _ _ _ _ _ (t .read-tail .ensures .0) (r .read-points .ensures .1) (t .read-tail .ensures .1)
+    ∙ rest-done (a .text .now) (a .n) (a .m) (a .from) (a .points .now) (a .pairs .now) (e .before .if1 .left) (e .if2 .left) (k .p .given .0 .0)
+    (sym (r .read-points .ensures .0) ∙ k .p .given .1)
 
 enum-known-p-2 : tie.Need-enum-known-p-2
 enum-known-p-2 c = search needs
@@ -59,7 +61,9 @@ returns-4 c =
     let r = k .before .before .before in
     let e = r .before .before in
     let a = e .before .before .before .before .args in
-    same-outcome _ _ _ _ _ _ refl (r .read-points .ensures .1) refl ∙ rest-fault (a .text .now) (a .n) (a .m) (a .from) (a .points .now) (a .pairs .now) (e .before .if1 .left) (e .if2 .left) (k .p2 .given .0 .0) (sym (r .read-points .ensures .0) ∙ k .p2 .given .1)
+    same-outcome _ _ _ _ _ _ refl (r .read-points .ensures .1) refl
+    ∙ rest-fault (a .text .now) (a .n) (a .m) (a .from) (a .points .now) (a .pairs .now) (e .before .if1 .left) (e .if2 .left)
+    (k .p2 .given .0 .0) (sym (r .read-points .ensures .0) ∙ k .p2 .given .1)
 
 pub read-rest-spec : {M : Type 1} → statement M
 read-rest-spec =

@@ -13,14 +13,16 @@ returns-2 c =
     let k = c .before .before .before in
     let w = k .before .before in
     let v = k .w .given .0 in
-    sym (taken-yes (w .before .before .args .coordinate) (v .0) (v .1 .0) (v .1 .1 .0) (v .1 .1 .1 .0) (sym (c .before .is-allowed .ensures) ∙ c .if1 .taken)) ∙ ap (taken (w .before .before .args .coordinate)) (sym (k .w .given .1) ∙ w .next-word .ensures)
+    sym (taken-yes (w .before .before .args .coordinate) (v .0) (v .1 .0) (v .1 .1 .0) (v .1 .1 .1 .0)
+    (sym (c .before .is-allowed .ensures) ∙ c .if1 .taken)) ∙ ap (taken (w .before .before .args .coordinate)) (sym (k .w .given .1) ∙ w .next-word .ensures)
 
 returns-3 : tie.Need-returns-3
 returns-3 c =
     let k = c .before .before .before in
     let w = k .before .before in
     let v = k .w .given .0 in
-    sym (taken-no (w .before .before .args .coordinate) (v .0) (v .1 .0) (v .1 .1 .0) (v .1 .1 .1 .0) (sym (c .before .is-allowed .ensures) ∙ c .if1 .left)) ∙ ap (taken (w .before .before .args .coordinate)) (sym (k .w .given .1) ∙ w .next-word .ensures)
+    sym (taken-no (w .before .before .args .coordinate) (v .0) (v .1 .0) (v .1 .1 .0) (v .1 .1 .1 .0)
+    (sym (c .before .is-allowed .ensures) ∙ c .if1 .left)) ∙ ap (taken (w .before .before .args .coordinate)) (sym (k .w .given .1) ∙ w .next-word .ensures)
 
 returns-4 : tie.Need-returns-4
 returns-4 c = let w = c .before .before .before in ap (taken (w .before .before .args .coordinate)) (sym (c .before .w2 .given .1) ∙ w .next-word .ensures)

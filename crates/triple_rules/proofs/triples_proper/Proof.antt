@@ -45,7 +45,8 @@ returns-3 c =
     let l = c .before .before .before .before .before in
     let e = l .before .before in
     let s = e .before .before .before .args in
-    sym (decide (s .points .now) (s .list .now) (omega arith) (omega arith) ∙ all-fails (good (s .points .now) (s .list .now)) _ _ (l .loop-test .taken) (sym (c .before .proper .ensures) ∙ not-true (c .before .proper .result) (c .if3 .taken)))
+    sym (decide (s .points .now) (s .list .now) (omega arith) (omega arith)
+    ∙ all-fails (good (s .points .now) (s .list .now)) _ _ (l .loop-test .taken) (sym (c .before .proper .ensures) ∙ not-true (c .before .proper .result) (c .if3 .taken)))
 
 loop-again : tie.Need-loop-again Inv-loop μ-loop
 loop-again c =

@@ -40,7 +40,8 @@ module _ (c : tie.After-far-corner) where
   abbrev s : tie.Start
   s = i .before .before .before
 
-  seen : Seen (s .args .points .now) (s .args .count) (s .args .work .now) (s .args .t) (s .args .e) (i .before .at .result) (k .before .at2 .result) (f .before .before .at3 .result) (f .before .at4 .result) (f .at5 .result) (c .far-corner .result)
+  seen : Seen (s .args .points .now) (s .args .count) (s .args .work .now) (s .args .t) (s .args .e) (i .before .at .result) (k .before .at2 .result)
+      (f .before .before .at3 .result) (f .before .at4 .result) (f .at5 .result) (c .far-corner .result)
   seen = record {
     figure = s .pre .0;
     ready = s .pre .1;

@@ -24,5 +24,6 @@ same-length c = c .before .loop .inv
 pub spread-spec : {M : Type 1} → statement M
 spread-spec =
     tie.close
-    (tie.spec Inv-loop μ-loop (λ c. refl) (λ c. record { sfits = omega arith }) (λ c. search needs) (λ c. search needs) (λ c. omega arith) (λ c. record { sfits = omega arith }) (λ c. search needs) (λ c. search needs)
+    (tie.spec Inv-loop μ-loop (λ c. refl) (λ c. record { sfits = omega arith }) (λ c. search needs) (λ c. search needs) (λ c. omega arith)
+    (λ c. record { sfits = omega arith }) (λ c. search needs) (λ c. search needs)
     (λ c. search needs) slice-set-from-points-2 (λ c. omega arith) (λ c. omega arith) loop-again same-length (λ c. search needs))
