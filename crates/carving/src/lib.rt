@@ -45,8 +45,8 @@ fn close(points: &[i32], work: &mut [u32], n: usize, count: usize, l: usize, r: 
     ) else {
         return Filling::Stuck;
     };
-    let s = fillings::slot(work, n, l + r - 1);
-    fillings::move_to(work, 8 * n, 3 * s);
+    let s = seams::slot(work, n, l + r - 1);
+    seams::move_to(work, 8 * n, 3 * s);
     Filling::Done
 }
 
@@ -82,7 +82,7 @@ pub fn mark(work: &mut [u32], h: usize)
     requires { ⌜ CanMark (now work) h ⌝ }
     ensures { λ _. ⌜ now (work .exit) ≡ markW (now (work .entry)) h (adj (now (work .entry)) h) ⌝ }
 {
-    let m = wide(store::partner(work, h));
+    let m = wide(links::partner(work, h));
     work[16 * (h / 3) + 6 + h % 3] = 1;
     if m != 0 {
         let g = m - 1;
@@ -133,7 +133,7 @@ pub fn suspect_all(work: &mut [u32], n: usize, count: usize, k: usize)
 {
     let mut m = 0;
     while m < k {
-        let s = fillings::slot(work, n, m);
+        let s = seams::slot(work, n, m);
         suspects::push(work, m, s);
         m += 1;
     }

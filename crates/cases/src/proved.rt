@@ -4,20 +4,20 @@ use signs::WholeSign;
 
 fn sign(s: Sign) {
     match s {
-        Sign::Neg => runs::text(b"negative\n"),
-        Sign::Zero => runs::text(b"zero\n"),
-        Sign::Pos => runs::text(b"positive\n"),
+        Sign::Neg => reports::text(b"negative\n"),
+        Sign::Zero => reports::text(b"zero\n"),
+        Sign::Pos => reports::text(b"positive\n"),
     }
 }
 
 // The circle sign of (0,0), (4,0), (0,4) with the point.
 fn circle(name: &[u8], x: i32, y: i32) {
-    runs::text(name);
-    runs::text(b": ");
+    reports::text(name);
+    reports::text(b": ");
     let answer = signs::circle_sign(0, 0, 4, 0, 0, 4, x, y);
     match answer {
         WholeSign::Known(s) => sign(s),
-        WholeSign::OutOfRange => runs::text(b"out of range\n"),
+        WholeSign::OutOfRange => reports::text(b"out of range\n"),
     }
 }
 

@@ -1,6 +1,5 @@
 // Runs the cases of document 01 for the checker, and prints a line for each.
 mod checker_cases;
-mod print;
 
 fn main() {
     checker_cases::all();

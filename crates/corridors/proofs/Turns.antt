@@ -20,7 +20,7 @@ use Rattle.chains.specs.declared.Walking.{Walking}
 use Rattle.chains.proofs.Laws.{cell-off, chain-mod, slot-mod}
 use Rattle.chains.proofs.Rooms.{set-quiet, move-sound}
 use Rattle.chains.proofs.Entering.{enter-length, left-room, right-room, left-kept, right-kept}
-use Rattle.fillings.specs.Fits.{CanMove}
+use Rattle.seams.specs.Fits.{CanMove}
 use Rattle.corridors.specs.Collected.{Area}
 use Rattle.corridors.proofs.Looks.{prv-in, left-low, right-low, last-low}
 

@@ -75,7 +75,7 @@ fn look(points: &[i32], work: &[u32], count: usize, a: usize, b: usize, x: usize
     requires { ⌜ (a < pointCount (now points)) × (b < pointCount (now points)) × (x < 3 * count) ⌝ }
     ensures { λ r. ⌜ r ≡ lookAt (point (now (points .entry))) count a b (now (work .entry)) x ⌝ }
 {
-    let m = wide(store::partner(work, x));
+    let m = wide(links::partner(work, x));
     if m == 0 {
         return Beyond::Stuck(Reason::NoNeighbour);
     }
@@ -98,7 +98,7 @@ fn enter(work: &mut [u32], n: usize, k: usize, y: usize, o: usize, g: usize, e: 
     ensures { λ _. ⌜ now (work .exit) ≡ enterW n (now (work .entry)) k y o g e c ⌝ }
 {
     work[16 * (2 * n + k) + 10] = (y / 3) as u32;
-    fillings::move_to(work, o, 6 * n + g);
+    seams::move_to(work, o, 6 * n + g);
     stand(work, n, e, c);
 }
 
@@ -109,7 +109,7 @@ fn turn_left(work: &mut [u32], n: usize, l: usize, r: usize, y: usize, c: usize)
 {
     let o = previous(y);
     enter(work, n, l + r - 1, y, o, l, l + 1, c);
-    store::next(y)
+    links::next(y)
 }
 
 // A corner on the right.
@@ -117,7 +117,7 @@ fn turn_right(work: &mut [u32], n: usize, l: usize, r: usize, y: usize, c: usize
     requires { ⌜ Area n (now work) × (0 < l + r) × (l + r + 3 < 2 * n) × (y < 6 * n) × (c < n) ⌝ }
     ensures { λ x. ⌜ (x ≡ prv y) × (now (work .exit) ≡ rightW n (now (work .entry)) l r y c) ⌝ }
 {
-    let o = store::next(y);
+    let o = links::next(y);
     let g = 2 * n - 2 - r;
     enter(work, n, l + r - 1, y, o, g, g, c);
     previous(y)
@@ -137,7 +137,7 @@ pub fn begin(work: &mut [u32], n: usize, count: usize, a: usize, x: usize)
     requires { ⌜ Room n count (now work) × (a < n) × (x < 3 * count) ⌝ }
     ensures { λ _. ⌜ (now (work .exit) ≡ beginW n (now (work .entry)) a x) × Room n count (now (work .exit)) × Kept n (now (work .entry)) (now (work .exit)) ⌝ }
 {
-    let g = store::next(x);
+    let g = links::next(x);
     let f = previous(x);
     let v = wide(start(work, g));
     let u = wide(start(work, x));

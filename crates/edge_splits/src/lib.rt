@@ -53,8 +53,8 @@ pub fn split_edge(work: &mut [u32], count: usize, h: usize, g: usize, p: u32)
     store::record(work, count, second);
     store::record(work, t, third);
     store::record(work, count + 1, fourth);
-    store::rewire(work, ad, k + 4);
-    store::rewire(work, db, j + 2);
-    store::rewire(work, bc, k + 1);
-    store::rewire(work, ca, i + 2);
+    links::rewire(work, ad, k + 4);
+    links::rewire(work, db, j + 2);
+    links::rewire(work, bc, k + 1);
+    links::rewire(work, ca, i + 2);
 }

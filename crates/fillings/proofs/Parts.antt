@@ -12,7 +12,7 @@ use Rattle.chains.specs.Fillings.{FillW, NoApex, Filled}
 use Rattle.chains.specs.Fillings.FillW.{gap, node}
 use Rattle.chains.specs.Fillings.NoApex.{here, before, after}
 use Rattle.chains.proofs.Rooms.{still-none, still-step, move-still, join-still, cut-still, move-room, join-room, cut-room, chain-still, slot-still}
-use Rattle.fillings.proofs.Fitting.{slot-low}
+use Rattle.seams.proofs.Fitting.{slot-low}
 
 module _ (P : ℕ → Pt ℤ) (n t : ℕ) where
   fill-as : (w w′ : List ℕ) → Still n w w′ → {i j p q top : ℕ} {w1 w2 : List ℕ} →

@@ -1,4 +1,1 @@
-pub mod Corners
-pub mod Moves
 pub mod Walks
-pub mod Houses

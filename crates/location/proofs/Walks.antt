@@ -10,8 +10,8 @@ use Rattle.plane.specs.Points.{Pt}
 use Rattle.nets.specs.Layout.{netOf, InRange}
 use Rattle.nets.specs.Location.{beyond, holds, step, over, orElse, slotOf, walk, scan, locate}
 use Rattle.nets.specs.Nets.{Net}
-use Rattle.location.specs.Moves.{move}
-use Rattle.location.proofs.Moves.{else-yes}
+use Rattle.turns.specs.Moves.{move}
+use Rattle.turns.proofs.Moves.{else-yes}
 
 -- ---- a turn of the walk
 

@@ -1,93 +1,12 @@
-// Step 1 of the building steps: the triangle of the working area in which a point lies, its edge that the point lies on, and the house
-// order of two triangles.
-//
-// Crate nets says in specs/Location what each call answers. The walk is the hot loop of the building: in each triangle that it enters it
-// asks for each of the three orientations once, and every coordinate is known to be near, so that they are computed in 32 bits.
+// Step 1 of the building steps: the triangle of the working area in which a point lies, and its edge that the point lies on. Crate nets says in
+// specs/Location what each call answers.
 ghost use mathlib.Core.Path.{_≡_};
-ghost use mathlib.Core.Bool.{cond};
-ghost use Prim.Native.Nat.{suc, _+_, _*_, _≤_, _<_};
-ghost use lib.IntN.{negℤ};
-ghost use lib.ListN.{length};
-ghost use Rattle.algebra.specs.Tests.{posb};
-ghost use Rattle.plane.specs.Determinants.{orient};
+ghost use Prim.Native.Nat.{suc, _+_, _*_, _<_};
 ghost use Rattle.tables.specs.Data.{pointCount, point};
-ghost use Rattle.tables.specs.Rules.{rises};
 ghost use Rattle.nets.specs.Layout.{netOf, InRange};
-ghost use Rattle.nets.specs.Location.{slotOf, walk, scan, locate, edgeAt, least, second, third, earlier};
+ghost use Rattle.nets.specs.Location.{walk, scan, locate, edgeAt};
 ghost use Rattle.segments.specs.Near.{Near};
-ghost use Rattle.location.specs.Moves.{Numbered, chosen, move};
-
-// ---- the walk
-
-// p is strictly right of the line from a to b. The determinant is at most 2^29 in size.
-fn is_right(points: &[i32], a: usize, b: usize, p: usize) -> bool
-    requires { ⌜ Near (now points) ⌝ }
-    requires { ⌜ (a < pointCount (now points)) × (b < pointCount (now points)) × (p < pointCount (now points)) ⌝ }
-    ensures { λ r. ⌜ r ≡ posb (negℤ (orient (point (now (points .entry)) a) (point (now (points .entry)) b) (point (now (points .entry)) p))) ⌝ }
-{
-    let px = points[2 * p];
-    let py = points[2 * p + 1];
-    let apx = points[2 * a] - px;
-    let apy = points[2 * a + 1] - py;
-    let bpx = points[2 * b] - px;
-    let bpy = points[2 * b + 1] - py;
-    apx * bpy - apy * bpx < 0
-}
-
-// The slot across an edge and 1, or 0 for none: there is one if the point is beyond the edge and the edge has a partner. The partner is a
-// half-edge and 1, or 0 for none, so the sum needs no test.
-fn over(beyond: bool, partner: u32) -> usize
-    ensures { λ r. ⌜ r ≡ cond beyond (slotOf partner) 0 ⌝ }
-{
-    if beyond {
-        (partner as usize + 2) / 3
-    } else {
-        0
-    }
-}
-
-// What the walk does in a triangle: edge k has the point strictly beyond it if sk is true, and its partner is ak. The answer is 0 if the
-// triangle holds the point, 1 if there is no way on, and otherwise the next slot and 2.
-fn choose(s0: bool, s1: bool, s2: bool, a0: u32, a1: u32, a2: u32) -> usize
-    ensures { λ r. ⌜ r ≡ chosen s0 s1 s2 a0 a1 a2 ⌝ }
-{
-    let x0 = over(s0, a0);
-    if x0 != 0 {
-        return x0 + 1;
-    }
-    let x1 = over(s1, a1);
-    if x1 != 0 {
-        return x1 + 1;
-    }
-    let x2 = over(s2, a2);
-    if x2 != 0 {
-        return x2 + 1;
-    }
-    if s0 {
-        return 1;
-    }
-    if s1 {
-        return 1;
-    }
-    if s2 { 1 } else { 0 }
-}
-
-// The same of slot t and point p: 0 says that p lies in the closed triangle.
-fn loc_in_tri(points: &[i32], work: &[u32], count: usize, p: usize, t: usize) -> usize
-    requires { ⌜ Near (now points) ⌝ }
-    requires { ⌜ Numbered (now points) (now work) count ⌝ }
-    requires { ⌜ (p < pointCount (now points)) × (t < count) × (16 * count ≤ length (now work)) ⌝ }
-    ensures { λ r. ⌜ r ≡ move (point (now (points .entry))) (netOf (now (work .entry)) count) (point (now (points .entry)) p) t ⌝ }
-{
-    let at = 16 * t;
-    let v0 = work[at] as usize;
-    let v1 = work[at + 1] as usize;
-    let v2 = work[at + 2] as usize;
-    let s0 = is_right(points, v0, v1, p);
-    let s1 = is_right(points, v1, v2, p);
-    let s2 = is_right(points, v2, v0, p);
-    choose(s0, s1, s2, work[at + 3], work[at + 4], work[at + 5])
-}
+ghost use Rattle.turns.specs.Moves.{Numbered};
 
 // The walk from the newest slot: it enters at most 4 count + 16 triangles, and ends in one that holds p, or with none.
 fn walk(points: &[i32], work: &[u32], count: usize, p: usize, newest: usize) -> usize
@@ -100,7 +19,7 @@ fn walk(points: &[i32], work: &[u32], count: usize, p: usize, newest: usize) -> 
     let mut left = 4 * count + 16;
     let mut t = newest;
     while 0 < left {
-        let to = loc_in_tri(points, work, count, p, t);
+        let to = turns::loc_in_tri(points, work, count, p, t);
         if to == 0 {
             return t + 1;
         }
@@ -123,7 +42,7 @@ fn scan(points: &[i32], work: &[u32], count: usize, p: usize) -> usize
 {
     let mut t = 0;
     while t < count {
-        if loc_in_tri(points, work, count, p, t) == 0 {
+        if turns::loc_in_tri(points, work, count, p, t) == 0 {
             return t + 1;
         }
         t += 1;
@@ -170,75 +89,4 @@ pub fn edge_at(points: &[i32], work: &[u32], count: usize, p: usize, t: usize) -
         return 3 * t + 3;
     }
     0
-}
-
-// ---- house order: each triangle is turned so that its least number is first
-
-fn least(a: u32, b: u32, c: u32) -> u32
-    ensures { λ r. ⌜ r ≡ least a b c ⌝ }
-{
-    if b < c {
-        if a < b { a } else { b }
-    } else {
-        if a < c { a } else { c }
-    }
-}
-
-fn second(a: u32, b: u32, c: u32) -> u32
-    ensures { λ r. ⌜ r ≡ second a b c ⌝ }
-{
-    let m = least(a, b, c);
-    if m == a {
-        return b;
-    }
-    if m == b { c } else { a }
-}
-
-fn third(a: u32, b: u32, c: u32) -> u32
-    ensures { λ r. ⌜ r ≡ third a b c ⌝ }
-{
-    let m = least(a, b, c);
-    if m == a {
-        return c;
-    }
-    if m == b { a } else { b }
-}
-
-fn rises(a: u32, b: u32, c: u32, d: u32, e: u32, f: u32) -> bool
-    ensures { λ r. ⌜ r ≡ rises a b c d e f ⌝ }
-{
-    if a < d {
-        return true;
-    }
-    if a == d {
-        if b < e {
-            return true;
-        }
-        if b == e { c < f } else { false }
-    } else {
-        false
-    }
-}
-
-// The triangle of slot s comes before that of slot t.
-pub fn earlier(work: &[u32], count: usize, s: usize, t: usize) -> bool
-    requires { ⌜ (s < count) × (t < count) × (16 * count ≤ length (now work)) ⌝ }
-    ensures { λ r. ⌜ r ≡ earlier (netOf (now (work .entry)) count) s t ⌝ }
-{
-    let i = 16 * s;
-    let a = work[i];
-    let b = work[i + 1];
-    let c = work[i + 2];
-    let j = 16 * t;
-    let d = work[j];
-    let e = work[j + 1];
-    let f = work[j + 2];
-    rises(
-        least(a, b, c),
-        second(a, b, c),
-        third(a, b, c),
-        least(d, e, f),
-        second(d, e, f),
-        third(d, e, f),
-    )
 }

@@ -1,4 +1,4 @@
-// Rule 8: the triples of a list are in house order.
+// House order: the order of two triples, and rule 8, that the triples of a list are in it.
 ghost use mathlib.Core.Path.{_≡_};
 ghost use Prim.Native.Nat.{_+_, _-_, _*_, _≤_};
 ghost use lib.ListN.{length};
@@ -18,7 +18,8 @@ fn least_first(list: &[u32], t: usize) -> bool
     }
 }
 
-fn rises(a: u32, b: u32, c: u32, d: u32, e: u32, f: u32) -> bool
+// The triple a b c is before the triple d e f.
+pub fn rises(a: u32, b: u32, c: u32, d: u32, e: u32, f: u32) -> bool
     ensures { λ r. ⌜ r ≡ rises a b c d e f ⌝ }
 {
     if a < d {

@@ -1,152 +1,11 @@
 // A picture of a sheet, in the figure's own coordinates with y upwards.
-ghost use Prim.Native.Nat.{_≤_};
 use pages::Pen;
-
-// A coordinate and 8,192, which is not below 0. Every coordinate of a sheet is within the limit.
-fn shifted(z: i32) -> usize
-    ensures { λ r. ⌜ r ≤ 16384 ⌝ }
-{
-    if signs::within(z, 0) {
-        return pages::wide((z + 8192) as u32);
-    }
-    8192
-}
-
-// Number i of the list, shifted.
-fn read(points: &[i32], i: usize) -> usize
-    ensures { λ r. ⌜ r ≤ 16384 ⌝ }
-{
-    if i < points.len() {
-        shifted(points[i])
-    } else {
-        8192
-    }
-}
-
-fn x_of(points: &[i32], p: u32) -> usize
-    ensures { λ r. ⌜ r ≤ 16384 ⌝ }
-{
-    read(points, 2 * (p as usize))
-}
-
-fn y_of(points: &[i32], p: u32) -> usize
-    ensures { λ r. ⌜ r ≤ 16384 ⌝ }
-{
-    read(points, 2 * (p as usize) + 1)
-}
-
-fn least(a: usize, b: usize) -> usize
-    ensures { λ r. ⌜ (r ≤ a) × (r ≤ b) ⌝ }
-{
-    if a < b { a } else { b }
-}
-
-fn most(a: usize, b: usize, limit: usize) -> usize
-    requires { ⌜ (a ≤ limit) × (b ≤ limit) ⌝ }
-    ensures { λ r. ⌜ r ≤ limit ⌝ }
-{
-    if a < b { b } else { a }
-}
-
-// How far it is from a up to b.
-fn gap(a: usize, b: usize) -> usize
-    ensures { λ r. ⌜ r ≤ b ⌝ }
-{
-    if a < b { b - a } else { 0 }
-}
-
-// The base holds all points, so its corners are as far out as any point.
-fn left(points: &[i32]) -> usize
-    ensures { λ r. ⌜ r ≤ 16384 ⌝ }
-{
-    let a = least(x_of(points, 0), x_of(points, 1));
-    least(a, x_of(points, 2))
-}
-
-fn right(points: &[i32]) -> usize
-    ensures { λ r. ⌜ r ≤ 16384 ⌝ }
-{
-    let a = most(x_of(points, 0), x_of(points, 1), 16384);
-    most(a, x_of(points, 2), 16384)
-}
-
-fn low(points: &[i32]) -> usize
-    ensures { λ r. ⌜ r ≤ 16384 ⌝ }
-{
-    let a = least(y_of(points, 0), y_of(points, 1));
-    least(a, y_of(points, 2))
-}
-
-fn high(points: &[i32]) -> usize
-    ensures { λ r. ⌜ r ≤ 16384 ⌝ }
-{
-    let a = most(y_of(points, 0), y_of(points, 1), 16384);
-    most(a, y_of(points, 2), 16384)
-}
-
-fn width(points: &[i32]) -> usize
-    ensures { λ r. ⌜ r ≤ 16384 ⌝ }
-{
-    gap(left(points), right(points))
-}
-
-fn height(points: &[i32]) -> usize
-    ensures { λ r. ⌜ r ≤ 16384 ⌝ }
-{
-    gap(low(points), high(points))
-}
-
-// The longer of the figure's two extents.
-fn extent(points: &[i32]) -> usize
-    ensures { λ r. ⌜ r ≤ 16384 ⌝ }
-{
-    most(width(points), height(points), 16384)
-}
-
-fn margin(points: &[i32]) -> usize
-    ensures { λ r. ⌜ r ≤ 16384 ⌝ }
-{
-    extent(points) / 12 + 1
-}
-
-// The size of the numbers, in thousandths: the more points, the smaller. The other sizes are parts of it.
-fn letter(points: &[i32]) -> usize {
-    pages::one_more(1000 * extent(points) / (24 + points.len() / 8))
-}
-
-// The frame of the picture, which has a margin on each side: how wide and how high it is, and how far the margin and its upper edge are
-// above the figure's 0.
-fn frame_width(points: &[i32]) -> usize
-    ensures { λ r. ⌜ r ≤ 100000 ⌝ }
-{
-    width(points) + 2 * margin(points)
-}
-
-fn frame_height(points: &[i32]) -> usize
-    ensures { λ r. ⌜ r ≤ 100000 ⌝ }
-{
-    height(points) + 2 * margin(points)
-}
-
-fn frame_longer(points: &[i32]) -> usize
-    ensures { λ r. ⌜ r ≤ 100000 ⌝ }
-{
-    most(frame_width(points), frame_height(points), 100000)
-}
-
-fn frame_zero(points: &[i32]) -> usize {
-    8192 + margin(points)
-}
-
-fn frame_top(points: &[i32]) -> usize {
-    high(points) + margin(points)
-}
 
 // The place of a point, as `x y`.
 fn place(page: &mut [u8; 65536], pen: Pen, points: &[i32], p: u32) -> Pen {
-    let pen = pages::difference(page, pen, x_of(points, p), 8192);
+    let pen = pages::difference(page, pen, frames::x_of(points, p), 8192);
     let pen = pages::byte(page, pen, b' ');
-    pages::difference(page, pen, y_of(points, p), 8192)
+    pages::difference(page, pen, frames::y_of(points, p), 8192)
 }
 
 // The four numbers of the frame, with what stands between them: its upper left corner, with y downwards, its width and its height.
@@ -158,35 +17,20 @@ fn frame(
     third: &[u8],
     fourth: &[u8],
 ) -> Pen {
-    let pen = pages::difference(page, pen, left(points), frame_zero(points));
+    let pen = pages::difference(page, pen, frames::left(points), frames::frame_zero(points));
     let pen = pages::text(page, pen, second);
-    let pen = pages::difference(page, pen, 8192, frame_top(points));
+    let pen = pages::difference(page, pen, 8192, frames::frame_top(points));
     let pen = pages::text(page, pen, third);
-    let pen = pages::number(page, pen, frame_width(points));
+    let pen = pages::number(page, pen, frames::frame_width(points));
     let pen = pages::text(page, pen, fourth);
-    pages::number(page, pen, frame_height(points))
-}
-
-// The longer side of the picture takes 720 dots.
-fn dots(side: usize, longer: usize) -> usize
-    requires { ⌜ side ≤ 100000 ⌝ }
-{
-    if longer > 0 { 720 * side / longer } else { 720 }
-}
-
-fn dots_wide(points: &[i32]) -> usize {
-    dots(frame_width(points), frame_longer(points))
-}
-
-fn dots_high(points: &[i32]) -> usize {
-    dots(frame_height(points), frame_longer(points))
+    pages::number(page, pen, frames::frame_height(points))
 }
 
 fn size(page: &mut [u8; 65536], pen: Pen, points: &[i32]) -> Pen {
     let pen = pages::text(page, pen, b"\" width=\"");
-    let pen = pages::number(page, pen, dots_wide(points));
+    let pen = pages::number(page, pen, frames::dots_wide(points));
     let pen = pages::text(page, pen, b"\" height=\"");
-    pages::number(page, pen, dots_high(points))
+    pages::number(page, pen, frames::dots_high(points))
 }
 
 fn head(page: &mut [u8; 65536], pen: Pen, points: &[i32]) -> Pen {
@@ -248,9 +92,9 @@ fn line(page: &mut [u8; 65536], pen: Pen, points: &[i32], pairs: &[u32], k: usiz
 
 fn dot(page: &mut [u8; 65536], pen: Pen, points: &[i32], p: u32, radius: usize) -> Pen {
     let pen = pages::text(page, pen, b"<circle cx=\"");
-    let pen = pages::difference(page, pen, x_of(points, p), 8192);
+    let pen = pages::difference(page, pen, frames::x_of(points, p), 8192);
     let pen = pages::text(page, pen, b"\" cy=\"");
-    let pen = pages::difference(page, pen, y_of(points, p), 8192);
+    let pen = pages::difference(page, pen, frames::y_of(points, p), 8192);
     let pen = pages::text(page, pen, b"\" r=\"");
     let pen = pages::thousandths(page, pen, radius);
     pages::text(page, pen, b"\"/>\n")
@@ -259,9 +103,9 @@ fn dot(page: &mut [u8; 65536], pen: Pen, points: &[i32], p: u32, radius: usize) 
 // The number of a point, with y downwards, so that the digits stand upright.
 fn label(page: &mut [u8; 65536], pen: Pen, points: &[i32], p: u32) -> Pen {
     let pen = pages::text(page, pen, b"<text x=\"");
-    let pen = pages::difference(page, pen, x_of(points, p), 8192);
+    let pen = pages::difference(page, pen, frames::x_of(points, p), 8192);
     let pen = pages::text(page, pen, b"\" y=\"");
-    let pen = pages::difference(page, pen, 8192, y_of(points, p));
+    let pen = pages::difference(page, pen, 8192, frames::y_of(points, p));
     let pen = pages::text(page, pen, b"\">");
     let pen = pages::number(page, pen, pages::wide(p));
     pages::text(page, pen, b"</text>\n")
@@ -317,7 +161,7 @@ fn labels(page: &mut [u8; 65536], pen: Pen, points: &[i32]) -> Pen {
 
 // The group of the triangles, thin, and that of the demanded lines, heavy.
 fn strokes(page: &mut [u8; 65536], pen: Pen, points: &[i32], pairs: &[u32], list: &[u32]) -> Pen {
-    let unit = letter(points);
+    let unit = frames::letter(points);
     let pen = pages::text(page, pen, b"<g stroke=\"#777\" stroke-width=\"");
     let pen = pages::thousandths(page, pen, unit / 24);
     let pen = pages::text(page, pen, b"\">\n");
@@ -331,7 +175,7 @@ fn strokes(page: &mut [u8; 65536], pen: Pen, points: &[i32], pairs: &[u32], list
 
 // The group of the points, and that of their numbers, a little to the right and above, each with a rim that keeps the lines off it.
 fn marks(page: &mut [u8; 65536], pen: Pen, points: &[i32]) -> Pen {
-    let unit = letter(points);
+    let unit = frames::letter(points);
     let pen = pages::text(page, pen, b"<g fill=\"black\">\n");
     let pen = dots_of(page, pen, points, unit / 6);
     let pen = pages::text(

@@ -22,9 +22,9 @@ use Rattle.chains.specs.Sticking.{Leaves, no-entry}
 use Rattle.chains.proofs.Rooms.{mark-room, mark-still, still-kept, near}
 use Rattle.carving.specs.Closing.{CanMark}
 use Rattle.flipping.specs.Above.{Above}
-use Rattle.searches.specs.Around.{Ranged, Neither}
+use Rattle.looks.specs.Around.{Ranged, Neither}
 use Rattle.searches.proofs.Apart.{entry-alone}
-use Rattle.searches.proofs.Laws.{ranged}
+use Rattle.looks.proofs.Laws.{ranged}
 use Rattle.sheets.specs.Keeps.{EdgeOf}
 use Rattle.remakes.proofs.Remakes.{grounds}
 use Rattle.chains.specs.declared.Reason.{Reason}

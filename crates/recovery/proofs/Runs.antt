@@ -11,10 +11,10 @@ use Rattle.chains.specs.Recoveries.{WholeW, StuckW, RecoversW}
 use Rattle.chains.specs.declared.Reason.{Reason}
 use Rattle.chains.specs.declared.Recovering.{Recovering}
 use Rattle.chains.specs.declared.Recovering.the-variants.{Done, Stuck}
-use Rattle.searches.specs.Around.{Told, Names, Between, Neither}
-use Rattle.searches.specs.declared.Around.{Around}
-use Rattle.searches.specs.declared.Around.the-variants.{Edge, Entry, Nothing}
-use Rattle.searches.proofs.Around.{the-type}
+use Rattle.looks.specs.Around.{Told, Names, Between, Neither}
+use Rattle.looks.specs.declared.Around.{Around}
+use Rattle.looks.specs.declared.Around.the-variants.{Edge, Entry, Nothing}
+use Rattle.looks.proofs.Around.{the-type}
 use denote.Enum.Declared.{tagOf}
 use types.Run.{OneOf}
 use native.Mathlib.Omega.{arith}

@@ -8,7 +8,7 @@ ghost use Rattle.nets.specs.Layout.{netOf};
 ghost use Rattle.chains.specs.Sticking.{Leaves};
 ghost use Rattle.recovery.specs.Lines.{Lined, Goes, AllGo};
 use chains::Recovering;
-use searches::Around;
+use looks::Around;
 
 // What the call for a pair answers.
 pub enum Line {
@@ -49,7 +49,7 @@ fn recover_line(
     let Recovering::Done(many) = carving::recover(points, work, n, count, a, b, x) else {
         return Line::Stuck;
     };
-    let s = fillings::slot(work, n, many - 1);
+    let s = seams::slot(work, n, many - 1);
     carving::mark(work, 3 * s);
     carving::suspect_all(work, n, count, many);
     flipping::legalize_suspects(points, work, count, many, 0);

@@ -3,7 +3,6 @@
 // the data, and says in oracle/src/replay.rs how.
 mod comparing;
 mod reading;
-mod telling;
 
 use libc::STDERR_FILENO;
 use texts::Progress;
@@ -59,7 +58,7 @@ fn counted(text: &[u8], tally: &mut [usize]) -> bool {
 fn of_text(text: &[u8]) {
     let mut tally = [0usize; 13];
     let is_whole = counted(text, &mut tally);
-    telling::summary(&tally, is_whole);
+    findings::telling::summary(&tally, is_whole);
 }
 
 // The list has more room than the data need: where they fill it, their end is not seen, and they are not taken.

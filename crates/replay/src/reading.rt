@@ -3,10 +3,10 @@
 // row and the place.
 ghost use Prim.Native.Nat.{_≤_};
 use crate::comparing;
-use crate::comparing::Finding;
-use crate::comparing::MARK;
-use crate::comparing::entry;
-use crate::telling;
+use findings::Finding;
+use findings::MARK;
+use findings::entry;
+use findings::telling;
 use texts::Answer;
 use texts::Progress;
 

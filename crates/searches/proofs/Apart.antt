@@ -32,7 +32,7 @@ use Rattle.nets.proofs.Covered.{mesh, covers}
 use Rattle.nets.proofs.Slot.{nxt-in, nxt-three, Turn, it, one, two, turn, Edge, e0, e1, e2, edge}
 use Rattle.nets.proofs.Tile.{from, tri-from}
 use Rattle.chains.specs.Sticking.{Leaves}
-use Rattle.searches.specs.Around.{Between}
+use Rattle.looks.specs.Around.{Between}
 
 -- ---- the place with the weights L at a, K at b and 1 at c
 

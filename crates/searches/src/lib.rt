@@ -6,65 +6,14 @@
 // all triangles may answer that there is neither.
 ghost use mathlib.Core.Path.{_≡_};
 ghost use Prim.Native.Nat.{_+_, _*_, _≤_, _<_};
-ghost use lib.ListN.{length, getD};
+ghost use lib.ListN.{length};
 ghost use Rattle.tables.specs.Data.{pointCount, point};
 ghost use Rattle.tables.specs.Figures.{Figure};
 ghost use Rattle.nets.specs.Layout.{netOf, InRange};
 ghost use Rattle.segments.specs.Near.{Near};
-ghost use Rattle.searches.specs.Around.{Ranged, Told, Neither, Passed, Open, Starts};
-
-// A triangle's slot and its edge 0, 1 or 2: an edge between the two points, or the entry edge; or that there is neither.
-pub enum Around {
-    Edge(usize, usize),
-    Entry(usize, usize),
-    Nothing,
-}
-
-// The half-edge at which a search starts.
-pub enum Found {
-    At(usize),
-    Nowhere,
-}
-
-fn at(work: &[u32], i: usize) -> usize
-    requires { ⌜ i < length (now work) ⌝ }
-    ensures { λ r. ⌜ r ≡ getD (now (work .entry)) i 0 ⌝ }
-{
-    work[i] as usize
-}
-
-// ---- one triangle
-
-// What half-edge h of a triangle tells, if it leaves a: both edges of the triangle at a are tried, and the one across.
-fn look(points: &[i32], work: &[u32], count: usize, a: usize, b: usize, h: usize) -> Around
-    requires { ⌜ Near (now points) ⌝ }
-    requires { ⌜ Ranged (now points) count (now work) ⌝ }
-    requires { ⌜ (a < pointCount (now points)) × (b < pointCount (now points)) × (h < 3 * count) ⌝ }
-    ensures { λ r. ⌜ Told (Passed (point (now (points .entry))) (netOf (now (work .entry)) count) a b h) (point (now (points .entry))) (netOf (now (work .entry)) count) a b r ⌝ }
-{
-    let t = h / 3;
-    let e = h % 3;
-    if at(work, 16 * t + e) != a {
-        return Around::Nothing;
-    }
-    let u = at(work, 16 * t + (e + 1) % 3);
-    let v = at(work, 16 * t + (e + 2) % 3);
-    if u == b {
-        return Around::Edge(t, e);
-    }
-    if v == b {
-        return Around::Edge(t, (e + 2) % 3);
-    }
-    if segments::is_right(points, a, b, u) {
-        if segments::is_left(points, a, b, v) {
-            return Around::Entry(t, (e + 1) % 3);
-        }
-        return Around::Nothing;
-    }
-    Around::Nothing
-}
-
-// ---- around the corner
+ghost use Rattle.looks.specs.Around.{Ranged, Told, Neither, Open, Starts};
+use looks::Around;
+use looks::Found;
 
 // A half-edge that leaves a, by the slot that is noted for a.
 fn start(work: &[u32], count: usize, a: usize) -> Found
@@ -72,15 +21,15 @@ fn start(work: &[u32], count: usize, a: usize) -> Found
     requires { ⌜ 16 * a + 16 ≤ length (now work) ⌝ }
     ensures { λ r. ⌜ Starts (netOf (now (work .entry)) count) a r ⌝ }
 {
-    let t = at(work, 16 * a + 12);
+    let t = looks::at(work, 16 * a + 12);
     if t < count {
-        if at(work, 16 * t) == a {
+        if looks::at(work, 16 * t) == a {
             return Found::At(3 * t);
         }
-        if at(work, 16 * t + 1) == a {
+        if looks::at(work, 16 * t + 1) == a {
             return Found::At(3 * t + 1);
         }
-        if at(work, 16 * t + 2) == a {
+        if looks::at(work, 16 * t + 2) == a {
             return Found::At(3 * t + 2);
         }
     }
@@ -94,13 +43,13 @@ fn onward(work: &[u32], count: usize, h: usize, left: bool) -> usize
     ensures { λ r. ⌜ r ≤ 3 * count ⌝ }
 {
     if left {
-        return at(work, 16 * (h / 3) + 3 + (h % 3 + 2) % 3);
+        return looks::at(work, 16 * (h / 3) + 3 + (h % 3 + 2) % 3);
     }
-    let g = at(work, 16 * (h / 3) + 3 + h % 3);
+    let g = looks::at(work, 16 * (h / 3) + 3 + h % 3);
     if g == 0 {
         return 0;
     }
-    store::next(g - 1) + 1
+    links::next(g - 1) + 1
 }
 
 // All half-edges that leave a, from one of them on, to the left or to the right, at most one in each triangle.
@@ -121,7 +70,7 @@ fn turn(
     let mut h = from;
     let mut steps = count;
     while 0 < steps {
-        let met = look(points, work, count, a, b, h);
+        let met = looks::look(points, work, count, a, b, h);
         let Around::Nothing = met else {
             return met;
         };
@@ -147,7 +96,7 @@ fn scan(points: &[i32], work: &[u32], count: usize, a: usize, b: usize) -> Aroun
 {
     let mut h = 0;
     while h < 3 * count {
-        let met = look(points, work, count, a, b, h);
+        let met = looks::look(points, work, count, a, b, h);
         let Around::Nothing = met else {
             return met;
         };

@@ -39,9 +39,9 @@ pub fn split_interior(work: &mut [u32], count: usize, t: usize, p: u32)
     store::record(work, t, first);
     store::record(work, count, second);
     store::record(work, count + 1, third);
-    store::rewire(work, ca, j + 3);
-    store::rewire(work, bc, j);
-    store::rewire(work, ab, i);
+    links::rewire(work, ca, j + 3);
+    links::rewire(work, bc, j);
+    links::rewire(work, ab, i);
 }
 
 // Splits (a, b, c) at point p on half-edge h, from a to b along the base, into (a, p, c) and (p, b, c).
@@ -70,6 +70,6 @@ pub fn split_side(work: &mut [u32], count: usize, h: usize, p: u32)
     };
     store::record(work, s, first);
     store::record(work, count, second);
-    store::rewire(work, bc, j + 1);
-    store::rewire(work, ca, i + 2);
+    links::rewire(work, bc, j + 1);
+    links::rewire(work, ca, i + 2);
 }

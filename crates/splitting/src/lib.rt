@@ -54,7 +54,7 @@ fn split_edge(work: &mut [u32], count: usize, h: usize, g: usize, p: usize)
     requires { ⌜ (h < 3 * count) × (g < 3 * count) × (p < 4096) × (16 * p + 16 ≤ length (now work)) × (16 * (count + 2) ≤ length (now work)) × (count + 2 ≤ 8192) × (64 ≤ length (now work)) ⌝ }
     ensures { λ _. ⌜ now (work .exit) ≡ cond (earlier (netOf (now (work .entry)) count) (g / 3) (h / 3)) (edgePushed (now (work .entry)) count g h p) (edgePushed (now (work .entry)) count h g p) ⌝ }
 {
-    if location::earlier(work, count, g / 3, h / 3) {
+    if houses::earlier(work, count, g / 3, h / 3) {
         split_both(work, count, g, h, p);
     } else {
         split_both(work, count, h, g, p);
@@ -76,7 +76,7 @@ pub fn split_at(points: &[i32], work: &mut [u32], count: usize, t: usize, p: usi
         };
     }
     let h = on - 1;
-    let across = store::partner(work, h) as usize;
+    let across = links::partner(work, h) as usize;
     if across == 0 {
         split_side(work, count, h, p);
         return Growth {

@@ -26,7 +26,7 @@ pub fn seen_from(work: &[u32], count: usize, h: usize) -> Tri
 {
     let b = 13 * (h / 3);
     let i = b + h;
-    let j = b + store::next(h);
+    let j = b + links::next(h);
     let k = b + previous(h);
     Tri {
         v: [work[i], work[j], work[k]],
@@ -65,8 +65,8 @@ pub fn flip(work: &mut [u32], count: usize, h: usize, g: usize)
     };
     store::record(work, s, first);
     store::record(work, t, second);
-    store::rewire(work, bc, j + 1);
-    store::rewire(work, db, j);
-    store::rewire(work, ca, i + 2);
-    store::rewire(work, ad, i);
+    links::rewire(work, bc, j + 1);
+    links::rewire(work, db, j);
+    links::rewire(work, ca, i + 2);
+    links::rewire(work, ad, i);
 }

@@ -1,10 +1,9 @@
-// The triangles in the lent working area: the record of a triangle by value, its place, and single half-edges. Crate nets says in
-// specs/Layout what stands where.
+// The triangles in the lent working area: the record of a triangle by value, and its place. Crate nets says in specs/Layout
+// what stands where.
 ghost use mathlib.Core.Path.{_≡_};
-ghost use Prim.Native.Nat.{ℕ, _+_, _*_, _/_, _≤_, _<_};
+ghost use Prim.Native.Nat.{_+_, _*_, _≤_, _<_};
 ghost use lib.ListN.{length, getD};
-ghost use Rattle.plane.specs.Halfedges.{nxt};
-ghost use Rattle.nets.specs.Layout.{cell, tell, putRec, born};
+ghost use Rattle.nets.specs.Layout.{putRec, born};
 ghost use Rattle.store.specs.Tri.{triAt, recOf};
 
 // A triangle: its corners, counterclockwise; for edge k, from corner k to the next, the neighbour's half-edge and 1, or 0 for none; and
@@ -49,26 +48,6 @@ pub fn store(work: &mut [u32], t: usize, x: Tri)
     work[b + 8] = con[2];
 }
 
-// ---- half-edges
-
-// The next half-edge of the same triangle.
-pub fn next(h: usize) -> usize
-    requires { ⌜ h < 24576 ⌝ }
-    ensures { λ r. ⌜ r ≡ nxt h ⌝ }
-{
-    if h % 3 == 2 { h - 2 } else { h + 1 }
-}
-
-// The partner of half-edge h and 1, or 0 for none.
-pub fn partner(work: &[u32], h: usize) -> u32
-    requires { ⌜ (h < 24576) × (16 * (h / 3) + 16 ≤ length (now work)) ⌝ }
-    ensures { λ r. ⌜ r ≡ getD (now (work .entry)) (cell 3 h) 0 ⌝ }
-{
-    work[16 * (h / 3) + 3 + h % 3]
-}
-
-// ---- writing
-
 // A triangle is born in slot s: its record is put there, and each of its corners has it.
 pub fn record(work: &mut [u32], s: usize, x: Tri)
     requires { ⌜ 16 * s + 16 ≤ length (now work) ⌝ }
@@ -84,16 +63,4 @@ pub fn record(work: &mut [u32], s: usize, x: Tri)
     work[16 * a + 12] = s as u32;
     work[16 * b + 12] = s as u32;
     work[16 * c + 12] = s as u32;
-}
-
-// The partner, where there is one, is told that its partner is half-edge y.
-pub fn rewire(work: &mut [u32], partner: u32, y: usize)
-    requires { ⌜ (y < 49152) × (partner ≤ 49152) ⌝ }
-    requires { ⌜ 16 * ((partner + 2) / 3) ≤ length (now work) ⌝ }
-    ensures { λ _. ⌜ now (work .exit) ≡ tell partner y (now (work .entry)) ⌝ }
-{
-    if partner != 0 {
-        let o = partner as usize - 1;
-        work[16 * (o / 3) + 3 + o % 3] = (y + 1) as u32;
-    }
 }

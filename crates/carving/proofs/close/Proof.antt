@@ -4,7 +4,7 @@ use native.Mathlib.Omega.{arith}
 use Rattle.tables.specs.Data.{pointCount, point}
 use Rattle.chains.specs.Areas.{slotOf, Room}
 use Rattle.chains.specs.Fillings.{Filled}
-use Rattle.fillings.proofs.Fitting.{can-move}
+use Rattle.seams.proofs.Fitting.{can-move}
 use Rattle.carving.proofs.Closings.{wide-left, wide-right, sticks-left, sticks-right, root-low, shut}
 use borrow.Author.Needs.{needs}
 use Rattle.carving.proofs.close.Statement.{statement}

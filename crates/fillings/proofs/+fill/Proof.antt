@@ -8,16 +8,16 @@ use Prim.Native.Nat.{ℕ, _+_, _-_, _*_, _≤_, _<_}
 use native.Mathlib.Omega.{arith}
 use Rattle.tables.specs.Data.{point}
 use Rattle.chains.specs.Fillings.{Filled}
-use Rattle.fillings.proofs.Fitting.{row-fits, can-move}
+use Rattle.seams.proofs.Fitting.{row-fits, can-move}
 use Rattle.fillings.proofs.Parts.{Based, s-low, room0, filled-gap, filled-node, stuck-here, stuck-before, stuck-after}
 use Rattle.fillings.proofs.fill.Reads as fill
 use Rattle.fillings.proofs.fill.Kinds as fill-kinds
 use Rattle.fillings.proofs.+fill.Lts-fill as lts
-use Rattle.fillings.proofs.choose.Reads as choose-reads
+use Rattle.apexes.proofs.choose.Reads as choose-reads
 use Rattle.fillings.proofs.cut_over.Reads as cut-over-reads
-use Rattle.fillings.proofs.is_over.Reads as is-over-reads
-use Rattle.fillings.proofs.join.Reads as join-reads
-use Rattle.fillings.proofs.move_to.Reads as move-to-reads
+use Rattle.apexes.proofs.is_over.Reads as is-over-reads
+use Rattle.seams.proofs.join.Reads as join-reads
+use Rattle.seams.proofs.move_to.Reads as move-to-reads
 use Rattle.fillings.proofs.+fill.{statement}
 use Rattle.fillings.proofs.+fill.Tie.{close}
 

@@ -1,6 +1,6 @@
 use borrow.Author.Needs.{needs}
 use denote.Ref.{now}
-use Rattle.fillings.proofs.Fitting.{cut-fits, cut-as}
+use Rattle.seams.proofs.Fitting.{cut-fits, cut-as}
 use Rattle.fillings.proofs.cut_over.Statement.{statement}
 use Rattle.fillings.proofs.cut_over.Tie as tie
 

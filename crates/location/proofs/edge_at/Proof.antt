@@ -1,8 +1,8 @@
 use Prim.Native.Nat.{_+_, _*_}
 use native.Mathlib.Omega.{arith}
 use Rattle.tables.specs.Data.{point}
-use Rattle.location.proofs.Corners.{Low, lows}
-use Rattle.location.proofs.Moves.{edge0, edge1, edge2, no-edge}
+use Rattle.turns.proofs.Corners.{Low, lows}
+use Rattle.turns.proofs.Moves.{edge0, edge1, edge2, no-edge}
 use Rattle.location.proofs.edge_at.Statement.{statement}
 use Rattle.location.proofs.edge_at.Tie as tie
 

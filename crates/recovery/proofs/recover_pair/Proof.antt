@@ -11,7 +11,7 @@ use Rattle.nets.specs.Layout.{netOf, Kept}
 use Rattle.nets.specs.Nets.{Net}
 use Rattle.nets.proofs.Keeps.{kept-same}
 use Rattle.chains.specs.Sticking.{Leaves}
-use Rattle.searches.specs.Around.{Told, Names, Between, Neither}
+use Rattle.looks.specs.Around.{Told, Names, Between, Neither}
 use Rattle.recovery.specs.Lines.{Lined}
 use Rattle.recovery.proofs.Lines.{search-asked, no-way, can-mark-it, marked-edge}
 use Rattle.recovery.proofs.Runs.{told, nothing, edge-told, entry-told}

@@ -5,8 +5,8 @@ use Rattle.tables.specs.Data.{point}
 use Rattle.tables.specs.Figures.{Figure}
 use Rattle.tables.proofs.Table.{near-list}
 use Rattle.nets.specs.Layout.{netOf}
-use Rattle.searches.specs.Around.{Open, Neither}
-use Rattle.searches.proofs.Laws.{named, start-low}
+use Rattle.looks.specs.Around.{Open, Neither}
+use Rattle.looks.proofs.Laws.{named, start-low}
 use Rattle.searches.proofs.look_around.Statement.{statement}
 use Rattle.searches.proofs.look_around.Tie as tie
 

@@ -2,7 +2,7 @@ use borrow.Author.Needs.{needs}
 use Prim.Native.Nat.{_-_, _*_, _≤_, _<_}
 use native.Mathlib.Omega.{arith}
 use Rattle.nets.proofs.Slot.{nxt-in}
-use Rattle.searches.proofs.Laws.{adj-low, before-low}
+use Rattle.looks.proofs.Laws.{adj-low, before-low}
 use Rattle.searches.proofs.onward.Statement.{statement}
 use Rattle.searches.proofs.onward.Tie as tie
 

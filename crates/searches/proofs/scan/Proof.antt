@@ -3,8 +3,8 @@ use Prim.Native.Nat.{ℕ, _-_, _*_, _≤_, _<_}
 use native.Mathlib.Omega.{arith}
 use Rattle.tables.specs.Data.{point}
 use Rattle.nets.specs.Layout.{netOf}
-use Rattle.searches.specs.Around.{Passed, Neither}
-use Rattle.searches.proofs.Laws.{named, passed-on, none}
+use Rattle.looks.specs.Around.{Passed, Neither}
+use Rattle.looks.proofs.Laws.{named, passed-on, none}
 use Rattle.searches.proofs.scan.Statement.{statement}
 use Rattle.searches.proofs.scan.Tie as tie
 

@@ -1,5 +1,5 @@
 use borrow.Author.Needs.{needs}
-use Rattle.searches.proofs.Laws.{starts-0, starts-1, starts-2}
+use Rattle.looks.proofs.Laws.{starts-0, starts-1, starts-2}
 use Rattle.searches.proofs.start.Statement.{statement}
 use Rattle.searches.proofs.start.Tie as tie
 

@@ -3,8 +3,8 @@ use Prim.Native.Nat.{_*_, _<_}
 use native.Mathlib.Omega.{arith}
 use Rattle.tables.specs.Data.{point}
 use Rattle.nets.specs.Layout.{netOf}
-use Rattle.searches.specs.Around.{Passed, Open}
-use Rattle.searches.proofs.Laws.{named}
+use Rattle.looks.specs.Around.{Passed, Open}
+use Rattle.looks.proofs.Laws.{named}
 use Rattle.searches.proofs.turn.Statement.{statement}
 use Rattle.searches.proofs.turn.Tie as tie
 
