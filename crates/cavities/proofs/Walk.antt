@@ -307,7 +307,7 @@ module _ (W : World) (Ccw : ℕ → ℕ → ℕ → Type 0) (F : Figure) (t cap 
       x_vt : (y : ℕ) → y < cap → ¬ (x ≡ F.vt y)
       x_vt y k = not_same σ x (F.vt y) (real x (parts three).in_f) (til.dead y k)
 
-pub walk_strip : {n l r x : ℕ} {σ σ' : Net} (W : World) (Ccw : ℕ → ℕ → ℕ → Type 0) (F : Figure) (t cap : ℕ) → Tiled W Ccw F.vt t cap σ → n < cap → Walk F t n l r x σ σ' → Strip W F t n l r x σ σ'
+pub walk_strip : (W : World) (Ccw : ℕ → ℕ → ℕ → Type 0) (F : Figure) (t cap : ℕ) {n l r x : ℕ} {σ σ' : Net} → Tiled W Ccw F.vt t cap σ → n < cap → Walk F t n l r x σ σ' → Strip W F t n l r x σ σ'
 walk_strip W Ccw F t cap til fits (start {f = f} {x = x} {g = g} {σ = σ} {σ1 = σ1} {σ2 = σ2} a b c d e i j k m o p q) = first W Ccw F t cap σ til f x g σ1 σ2 fits a b c d e i j k m o p q
 walk_strip W Ccw F t cap til fits (left {n = n} {l = l} {r = r} {x = x} {f = f} {g = g} {σ = σ} {σ1 = σ1} {σ2 = σ2} {σ3 = σ3} w has plain three small o s e drop park) =
     walk_left W Ccw F t cap σ til n l r x f g σ1 (walk_strip W Ccw F t cap til (omega arith) w) fits has plain three small σ2 σ3 drop park o s e

@@ -1,0 +1,12 @@
+use borrow.Author.Rules.{rules}
+use mathlib.Core.Path.{sym, ◌∙◌}
+use Prim.Native.Nat.{◌≤◌, ◌-◌}
+use native.Mathlib.Omega.{arith}
+use Rattle.texts.proofs.Words.{Read, read_none, read_more, read_small, fails_is, value_is, digit_from, digit_to}
+use Rattle.texts.proofs.read_digits.Given as goal
+
+abbrev pub invariant-loop-i : goal.invariant-loop-i
+invariant-loop-i l = (l.i ≤ l.end) × Read l.text l.from l.i l.v
+
+abbrev pub decreases-loop-i : goal.decreases-loop-i
+decreases-loop-i l = l.end - l.i
