@@ -75,10 +75,10 @@ module _ (w : List ℕ) (T h : ℕ) where
 
 -- ---- an answer that names something means the same whatever `Nothing` means
 
-pub named : (N O : Type 0) (P : ℕ → Pt ℤ) (m : Net) (a b : ℕ) (o : Around) → OneOf (0 ∷ 1 ∷ []) (tag_of the_type o) → Told N P m a b o → Told O P m a b o
+pub named : (N O : Type 0) (P : ℕ → Pt ℤ) (m : Net) (a b : ℕ) (o : Around) → ¬ (o ≡ Nothing) → Told N P m a b o → Told O P m a b o
 named N O P m a b (Edge t e) k x = x
 named N O P m a b (Entry t e) k x = x
-named N O P m a b Nothing k x = absurd (elim k [ inl e ↦ (let z : ⊥ = omega arith in z) | inr e ↦ (let z : ⊥ = omega arith in z) ])
+named N O P m a b Nothing k x = absurd (k refl)
 
 -- ---- one half-edge: p, u and v were read as its start, its end and the third corner
 

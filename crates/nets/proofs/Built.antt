@@ -143,7 +143,7 @@ rim_three P B x y z = rw (rim_on B (P 0) x, rim_on B (P 1) y, rim_on B (P 2) z)
 -- ---- all points
 
 -- there are three points at least
-builds_low : {P : ℕ → Pt ℤ} {rk : ℕ → ℕ} {a b c k : ℕ} {o m : Net} {z : ℕ} → Builds P rk a b c o k m z → 3 ≤ k
+builds_low : {P : ℕ → Pt ℤ} {rk : ℕ → ℕ} {a b c : ℕ} {o : Net} {k : ℕ} {m : Net} {z : ℕ} → Builds P rk a b c o k m z → 3 ≤ k
 builds_low alone = omega arith
 builds_low (more s r) = let l = builds_low s in omega arith
 
@@ -233,7 +233,7 @@ module _ (P : ℕ → Pt ℤ) (rk : ℕ → ℕ) (a b c n : ℕ) (la : a < 3) (l
       more_count m1 (one_more e i) = let z = s.count in let y = rim_step P B k true (rim_on B (P k) i) in omega arith
 
   -- the building steps make a tiling at rest
-  pub built : {k : ℕ} {o m : Net} {z : ℕ} → k ≤ n → Builds P rk a b c o k m z → Built P B rk k m z
+  pub built : {o : Net} {k : ℕ} {m : Net} {z : ℕ} → k ≤ n → Builds P rk a b c o k m z → Built P B rk k m z
   built {o = o} l alone = first o
   built l (more {k = k} {m' = m'} {z' = z'} s r) = let t = built (omega arith) s in let e : k + 1 ≡ suc k = omega arith in
       subst (λ (x : ℕ). Built P B rk x m' z') e (settled k t (goes_in k (omega arith) t) r)

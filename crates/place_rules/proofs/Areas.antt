@@ -7,8 +7,8 @@ use native.Mathlib.Omega.{arith}
 use lib.Dec.{eqb}
 use lib.IntN.{ℤ, ◌+ℤ◌, nat_abs}
 use mir.Syntax.{w64}
-use mir.Val.{SFits, of_z, to_z}
-use mir.Facts.{to_z-of_z}
+use mir.Val.{Fits, SFits, of_z, to_z}
+use mir.Facts.{to_z-of_z, of_z-to_z}
 use Rattle.algebra.specs.Sum.{sum_to}
 use Rattle.algebra.specs.Tests.{eq_z}
 use Rattle.algebra.proofs.Machine.{back}
@@ -48,24 +48,24 @@ module _ (ps : List ℤ) (near : Near ps) where
     sum_fits t l = record { sfits = omega (arith, sum_size t, mag_abs (sum_to t (triple_area ps xs))) }
 
     -- the bits s of the sum so far, and what a call told of the next area
-    module _ (t : ℕ) (l : t < 8187) (s : ℕ) (e : s ≡ of_z w64 (sum_to t (triple_area ps xs)))
+    module _ (t : ℕ) (l : t < 8187) (s : ℕ) (e : to_z w64 s ≡ sum_to t (triple_area ps xs))
         {r : ℤ} (h : r ≡ orient (point ps (corner xs (3 * t))) (point ps (corner xs (3 * t + 1))) (point ps (corner xs (3 * t + 2)))) where
       sum_more : to_z w64 s +ℤ back w64 r ≡ sum_to (t + 1) (triple_area ps xs)
       unfolding sum_to triple_area
       sum_more =
-          ap₂ (λ (x y : ℤ). x +ℤ y) (ap (to_z w64) e ∙ to_z-of_z (sum_fits t (omega arith))) (ap (back w64) h ∙ to_z-of_z (area_fits (corner xs (3 * t)) (corner xs (3 * t + 1)) (corner xs (3 * t + 2)))) ∙
+          ap₂ (λ (x y : ℤ). x +ℤ y) e (ap (back w64) h ∙ to_z-of_z (area_fits (corner xs (3 * t)) (corner xs (3 * t + 1)) (corner xs (3 * t + 2)))) ∙
           ap (λ (k : ℕ). sum_to k (triple_area ps xs)) (sym (add-one t))
 
       pub more_fits : SFits w64 (to_z w64 s +ℤ back w64 r)
       more_fits = subst (λ (z : ℤ). SFits w64 z) (sym sum_more) (sum_fits (t + 1) (omega arith))
 
-      pub more_is : of_z w64 (to_z w64 s +ℤ back w64 r) ≡ of_z w64 (sum_to (t + 1) (triple_area ps xs))
-      more_is = ap (of_z w64) sum_more
+      pub more_is : to_z w64 (of_z w64 (to_z w64 s +ℤ back w64 r)) ≡ sum_to (t + 1) (triple_area ps xs)
+      more_is = to_z-of_z more_fits ∙ sum_more
 
     -- the bits of the whole sum against what a call told of the base
-    pub sum_test : triples xs ≤ 8187 → (s : ℕ) → s ≡ of_z w64 (sum_to (triples xs) (triple_area ps xs)) → (b c : ℕ) → area_of_base (base ps) ≡ orient (point ps 0) (point ps b) (point ps c) →
+    pub sum_test : triples xs ≤ 8187 → (s : ℕ) → Fits w64 s → to_z w64 s ≡ sum_to (triples xs) (triple_area ps xs) → (b c : ℕ) → area_of_base (base ps) ≡ orient (point ps 0) (point ps b) (point ps c) →
         {r : ℤ} → r ≡ orient (point ps 0) (point ps b) (point ps c) → eqb s (of_z w64 r) ≡ rule5 ps xs
     unfolding rule5
-    sum_test l s e b c i h =
-        ap₂ eqb e (ap (of_z w64) h) ∙ eq_bits w64 (sum_to (triples xs) (triple_area ps xs)) (orient (point ps 0) (point ps b) (point ps c)) (sum_fits (triples xs) l) (area_fits 0 b c) ∙
+    sum_test l s f e b c i h =
+        ap₂ eqb (sym (of_z-to_z f) ∙ ap (of_z w64) e) (ap (of_z w64) h) ∙ eq_bits w64 (sum_to (triples xs) (triple_area ps xs)) (orient (point ps 0) (point ps b) (point ps c)) (sum_fits (triples xs) l) (area_fits 0 b c) ∙
         ap (eq_z (sum_to (triples xs) (triple_area ps xs))) (sym i)

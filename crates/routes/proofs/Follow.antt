@@ -139,7 +139,7 @@ module _ (W : World) (pts : ℕ → Pt ℤ) (Edge : ℕ → ℕ → Type 0) (a b
       })
 
 -- A WALK IS A ROUTE
-pub follow : {n l r x : ℕ} {σ σ' : Net} (W : World) (pts : ℕ → Pt ℤ) (Edge : ℕ → ℕ → Type 0) (a b : Pt ℤ) (F : Figure) (t cap : ℕ) →
+pub follow : (W : World) (pts : ℕ → Pt ℤ) (Edge : ℕ → ℕ → Type 0) (a b : Pt ℤ) (F : Figure) (t cap : ℕ) {n l r x : ℕ} {σ σ' : Net} →
     Tiled W (CcwP pts) F.vt t cap σ → Sees pts Edge a b F t σ → n < cap → Walk F t n l r x σ σ' → Route pts Edge F.cl F.cr a b n l r
 follow W pts Edge a b F t cap til sees fits (start {f = f} {x = x} {g = g} {σ = σ} {σ1 = σ1} {σ2 = σ2} three small ef ef' ex eg l r m o p q) =
     follow_start W pts Edge a b F t cap σ til sees f x g σ2 fits (walk_strip W (CcwP pts) F t cap til fits (start three small ef ef' ex eg l r m o p q)) three small ef ex eg l r

@@ -48,6 +48,9 @@ ordered (suc (suc zero)) (suc zero) i m h = absurd (omega arith)
 ordered (suc (suc zero)) (suc (suc zero)) i m h = absurd (omega arith)
 ordered (suc (suc zero)) (suc (suc (suc (suc l)))) i m h = absurd (omega arith)
 ordered (suc (suc (suc k))) l i m h = absurd (omega arith)
+ordered zero l i m h = elim i [ ]
+ordered (suc zero) zero i m h = elim m [ ]
+ordered (suc (suc zero)) zero i m h = elim m [ ]
 
 level : Pt ℤ → ℕ
 level p = up p.y
@@ -61,6 +64,7 @@ unfolding level
 changing (suc zero) l h = λ e. let q : ◌≡◌ {A = ℕ} 4 2 = ap level e in omega arith
 changing (suc (suc zero)) l h = λ e. let q : ◌≡◌ {A = ℕ} 2 4 = ap level e in omega arith
 changing (suc (suc (suc k))) l h = absurd (omega arith)
+changing zero l h = elim l [ ]
 
 pinched : Needles corner other 0 4
 pinched = record { pierce = pierced; apart = ordered; differ = changing }

@@ -6,7 +6,7 @@ ghost use Rattle.store.specs.Tri.{tri_at, rec_of};
 
 // A triangle: its corners, counterclockwise; for edge k, from corner k to the next, the neighbour's half-edge and 1, or 0 for none; and
 // the edge's mark, 0 for none.
-#[derive(Drop)]
+#[derive(Clone, Copy)]
 pub struct Tri {
     pub v: [u32; 3],
     pub adj: [u32; 3],

@@ -103,7 +103,7 @@ unfolding Suspects leave
 less_leave count w s [] g = omega arith
 less_leave count w s (v ∷ q) g =
     elim (ℕ_discrete s v) [
-      | yes e ↦ rw (eq-eqb s v e, e, leave_fresh v q g.2) (omega arith)
+      | yes e ↦ rw (eq-eqb s v e, ap (λ (x : ℕ). length (leave x q)) e, leave_fresh v q g.2) (omega arith)
       | no n ↦ rw (ne_eqb s v n) (let r = less_leave count w s q g.3 in omega arith)
     ]
 

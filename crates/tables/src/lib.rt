@@ -1,7 +1,7 @@
 // Document 01 as definitions (specs/), and the answers that it numbers, as enums. There is no code here.
 
 // The refusals of the table, in its order; a place is a point's number or a pair's.
-#[derive(Drop)]
+#[derive(Clone, Copy)]
 pub enum Refusal {
     // 1
     OddLength,

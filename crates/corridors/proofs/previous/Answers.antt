@@ -1,0 +1,12 @@
+use native.Mathlib.Omega.{arith}
+use Rattle.plane.specs.Halfedges.{nxt}
+use borrow.Author.Rules.{rules}
+use Rattle.corridors.proofs.previous.Goals as goal
+
+pub returns-then-h-eq0 : goal.returns-then-h-eq0
+unfolding nxt
+returns-then-h-eq0 c = omega arith
+
+pub returns-else-h-eq0 : goal.returns-else-h-eq0
+unfolding nxt
+returns-else-h-eq0 c = omega arith

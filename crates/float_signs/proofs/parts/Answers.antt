@@ -1,0 +1,75 @@
+use Rattle.std.proofs.Common.{◌≡◌, ℕ, zero, suc, ◌+◌, ◌/◌, ◌^◌, ◌<◌, ◌≤◌, Bool, true, false, ℤ, pos, negsuc, ◌-ℤ◌, neg_ℤ, sym, refl, ap, ◌∙◌, subst, ap₂, le_trans, lt_of_le_of_lt, arith, lit<, w32, w64, Fits, SFits, to_z, of_z}
+use lib.IntN.{+ℤ_idl}
+use lib.Signed.{mag}
+use lib.Pow.{shr_le}
+use lib.Count.{count_trailing_zeros}
+use lib.Ieee.{odd}
+use mir.ValLaws.{to_z-of_z, to_z_pos}
+use Rattle.floats.specs.Whole.{signed}
+use Rattle.float_signs.specs.Parts.{decomp_of}
+use Rattle.float_signs.specs.declared.Dyadic.TheVariants.{Parts}
+use Rattle.float_signs.proofs.Mantissa.{tz_le, parts_are, sub_small}
+use Rattle.float_signs.proofs.parts.Goals as goal
+use Rattle.float_signs.proofs.parts.Goals.{Start}
+
+abbrev tz : Start → ℕ
+tz c = count_trailing_zeros 64 c.args.q
+
+few : (c : Start) → tz c ≤ 53
+few c = tz_le c.args.q c.requires.0 c.requires.1
+
+abbrev m : Start → ℕ
+m c = c.args.q / 2 ^ tz c
+
+m-lt : (c : Start) → m c < 2 ^ 63
+m-lt c = lt_of_le_of_lt (shr_le c.args.q (tz c)) (omega arith)
+
+k_lt : (c : Start) → c.args.k + tz c < 2 ^ 31
+k_lt c = let h = few c in omega arith
+
+pub overflow_cast-m : goal.overflow_cast-m
+overflow_cast-m c = record { fits = let h = few (goal.at.overflow_cast-m c).Start in omega arith }
+
+pub overflow_shr-m : goal.overflow_shr-m
+overflow_shr-m c = let h = few (goal.at.overflow_shr-m c).Start in omega arith
+
+pub overflow_cast-m-2 : goal.overflow_cast-m-2
+overflow_cast-m-2 c = record { sfits = m-lt (goal.at.overflow_cast-m-2 c).Start }
+
+pub overflow_cast-e : goal.overflow_cast-e
+overflow_cast-e c = record { fits = let h = few (goal.at.overflow_cast-e c).Start in omega arith }
+
+pub overflow_add-e : goal.overflow_add-e
+overflow_add-e c = record { fits = let h = k_lt (goal.at.overflow_add-e c).Start in omega arith }
+
+pub overflow_cast-e-2 : goal.overflow_cast-e-2
+overflow_cast-e-2 c = record { sfits = k_lt (goal.at.overflow_cast-e-2 c).Start }
+
+e-is : (c : Start) → to_z w32 (c.args.k + tz c) ≡ pos (c.args.k + tz c)
+e-is c = to_z_pos w32 (c.args.k + tz c) (k_lt c)
+
+e-fits : (c : Start) → SFits w32 (pos (c.args.k + tz c) -ℤ pos 1074)
+e-fits c = record { sfits = sub_small (c.args.k + tz c) (k_lt c) }
+
+pub overflow_sub-e : goal.overflow_sub-e
+overflow_sub-e c = rw (e-is (goal.at.overflow_sub-e c).Start) (e-fits (goal.at.overflow_sub-e c).Start)
+
+m-is : (c : Start) → to_z w64 (m c) ≡ pos (m c)
+m-is c = to_z_pos w64 (m c) (m-lt c)
+
+neg-fits : (n : ℕ) → n < 2 ^ 63 → SFits w64 (neg_ℤ (pos n))
+neg-fits zero h = record { sfits = lit< tt }
+neg-fits (suc n) h = record { sfits = omega arith }
+
+pub overflow_sub-result : goal.overflow_sub-result
+overflow_sub-result c = rw (m-is (goal.at.overflow_sub-result c).Start, +ℤ_idl) (neg-fits (m (goal.at.overflow_sub-result c).Start) (m-lt (goal.at.overflow_sub-result c).Start))
+
+e-read : (c : Start) → to_z w32 (of_z w32 (to_z w32 (c.args.k + tz c) -ℤ pos 1074)) ≡ pos (c.args.k + tz c) -ℤ pos 1074
+e-read c = rw (e-is c) (to_z-of_z w32 (pos (c.args.k + tz c) -ℤ pos 1074) (e-fits c))
+
+pub returns-then-negative : goal.returns-then-negative
+returns-then-negative c = let n : to_z w64 (of_z w64 (pos 0 -ℤ to_z w64 (m (goal.at.returns-then-negative c).Start))) ≡ neg_ℤ (pos (m (goal.at.returns-then-negative c).Start)) = rw (m-is (goal.at.returns-then-negative c).Start, +ℤ_idl) (to_z-of_z w64 (neg_ℤ (pos (m (goal.at.returns-then-negative c).Start))) (neg-fits (m (goal.at.returns-then-negative c).Start) (m-lt (goal.at.returns-then-negative c).Start))) in
+    ap₂ Parts n (e-read (goal.at.returns-then-negative c).Start) ∙ parts_are true c.args.q c.args.k c.requires.0 c.requires.1 ∙ ap (λ (b : Bool). decomp_of (odd 53 b c.args.q c.args.k 1074)) (sym c.if-negative.true)
+
+pub returns-else-negative : goal.returns-else-negative
+returns-else-negative c = ap₂ Parts (m-is (goal.at.returns-else-negative c).Start) (e-read (goal.at.returns-else-negative c).Start) ∙ parts_are false c.args.q c.args.k c.requires.0 c.requires.1 ∙ ap (λ (b : Bool). decomp_of (odd 53 b c.args.q c.args.k 1074)) (sym c.if-negative.false)

@@ -1,0 +1,78 @@
+use Rattle.std.proofs.Common.{◌≡◌, ℕ, ◌<◌, ◌≤◌, Bool, true, false, cond, T, ℤ, nat_abs, sym, refl, ap, ◌∙◌, subst, ap₂, lt_of_le_of_lt, lit<, w32, w64, SFits, to_z, of_z, rules}
+use lib.Signed.{mag}
+use lib.Ieee.{Float, binary64, of_bits, neg, eq, of_int, in_float, to_signed}
+use lib.Ieee.Scale.{finite}
+use mir.ValLaws.{to_z-of_z}
+use Rattle.float_signs.specs.Intake.{intake_of}
+use Rattle.float_signs.specs.declared.Intake.{Intake}
+use Rattle.float_signs.specs.declared.Intake.TheVariants.{Whole, NotFinite, TooLarge, Fraction}
+use Rattle.float_signs.proofs.Coordinate.{Bounded, not_finite, too_large_above, too_large_below, bounded, above_least, below_most, part_small, part_mag, in_float_lem, back_is}
+use Rattle.float_signs.proofs.take_in.Reads as reads
+use Rattle.float_signs.proofs.is_finite.Reads as is-finite-reads
+use Rattle.std.proofs.num.truncating_f64_to_i64.Reads as truncating-f64-to-i64-reads 
+use Rattle.float_signs.proofs.take_in.Goals as goal
+use Rattle.float_signs.proofs.take_in.Goals.{After-row_known-1, After-truncating_f64_to_i64-t, Else-x-2, Then-is_finite}
+
+is-fin : (c : Then-is_finite) → finite c.args.x ≡ true
+is-fin c = sym c.is_finite.ensures ∙ c.if-is_finite.true
+
+pub returns-then-x : goal.returns-then-x
+unfolding of_bits
+returns-then-x c = too_large_above _ (is-fin (goal.at.returns-then-x c).Then-is_finite) c.if-x.true
+
+pub returns-then-x-2 : goal.returns-then-x-2
+unfolding of_bits neg
+returns-then-x-2 c = too_large_below _ (is-fin (goal.at.returns-then-x-2 c).Then-is_finite) c.if-x-2.true
+
+within : (c : Else-x-2) → Bounded c.args.x
+unfolding of_bits neg
+within c = bounded _ (is-fin c.before.before) c.if-x.false c.if-x-2.false
+
+pub truncating_f64_to_i64-t-requires : goal.truncating_f64_to_i64-t-requires
+truncating_f64_to_i64-t-requires c = record {
+  lower_bound = above_least _ (within (goal.at.truncating_f64_to_i64-t-requires c).Else-x-2);
+  upper_bound = below_most _ (within (goal.at.truncating_f64_to_i64-t-requires c).Else-x-2);
+}
+
+-- the whole part: it is small, and the machine reads it back from its bits at either width
+t : After-truncating_f64_to_i64-t → ℤ
+t c = c.truncating_f64_to_i64-t.result
+
+t-mag : (c : After-truncating_f64_to_i64-t) → mag (t c) ≤ 8192
+unfolding t
+t-mag c = subst (λ (z : ℤ). mag z ≤ 8192) (sym c.truncating_f64_to_i64-t.ensures) (part_mag _ (within c.before))
+
+t-abs : (c : After-truncating_f64_to_i64-t) → nat_abs (t c) ≤ 8192
+unfolding t
+t-abs c = subst (λ (z : ℤ). nat_abs z ≤ 8192) (sym c.truncating_f64_to_i64-t.ensures) (part_small _ (within c.before))
+
+read64 : (c : After-truncating_f64_to_i64-t) → to_z w64 (of_z w64 (t c)) ≡ t c
+read64 c = to_z-of_z w64 (t c) (record { sfits = lt_of_le_of_lt (t-mag c) (lit< tt) })
+
+fits32 : (c : After-truncating_f64_to_i64-t) → SFits w32 (t c)
+fits32 c = record { sfits = lt_of_le_of_lt (t-mag c) (lit< tt) }
+
+pub int_to_float-back : goal.int_to_float-back
+unfolding t
+int_to_float-back c = rw (read64 (goal.at.int_to_float-back c).After-truncating_f64_to_i64-t) (in_float_lem _ (t-abs (goal.at.int_to_float-back c).After-truncating_f64_to_i64-t))
+
+pub overflow_cast-result : goal.overflow_cast-result
+unfolding t
+overflow_cast-result c = rw (read64 (goal.at.overflow_cast-result c).After-truncating_f64_to_i64-t) (fits32 (goal.at.overflow_cast-result c).After-truncating_f64_to_i64-t)
+
+compared : (c : After-row_known-1) (b : Bool) → eq (of_int binary64 (to_z w64 (of_z w64 (t c.before.before)))) c.args.x ≡ b
+    → cond b (Whole (t c.before.before)) (Fraction c.args.x) ≡ intake_of c.args.x
+unfolding t
+compared c b h =
+    back_is _ (t c.before.before) (within c.before.before.before) c.truncating_f64_to_i64-t.ensures b (ap (λ (z : ℤ). eq (of_int binary64 z) c.args.x) (sym (read64 c.before.before)) ∙ h)
+
+pub returns-then-back-x : goal.returns-then-back-x
+unfolding t
+returns-then-back-x c = ap Whole (ap (λ (z : ℤ). to_z w32 (of_z w32 z)) (read64 (goal.at.returns-then-back-x c).After-truncating_f64_to_i64-t) ∙ to_z-of_z w32 (t (goal.at.returns-then-back-x c).After-truncating_f64_to_i64-t) (fits32 (goal.at.returns-then-back-x c).After-truncating_f64_to_i64-t)) ∙ compared (goal.at.returns-then-back-x c).After-row_known-1 true c.if-back-x.true
+
+pub returns-else-back-x : goal.returns-else-back-x
+unfolding t
+returns-else-back-x c = compared (goal.at.returns-else-back-x c).After-row_known-1 false c.if-back-x.false
+
+pub returns-else-is_finite : goal.returns-else-is_finite
+returns-else-is_finite c = not_finite _ (sym c.is_finite.ensures ∙ c.if-is_finite.false)

@@ -1,0 +1,14 @@
+use borrow.Author.Rules.{rules}
+use mathlib.Core.Path.{◌≡◌, refl, sym, ap, ◌∙◌}
+use Prim.Native.Nat.{ℕ, ◌+◌, ◌*◌, ◌/◌, ◌%◌}
+use native.Mathlib.Omega.{arith}
+use Rattle.plane.specs.Halfedges.{nxt}
+use Rattle.links.proofs.next.Goals as goal
+
+pub returns-then-h-eq2 : goal.returns-then-h-eq2
+unfolding nxt
+returns-then-h-eq2 c = omega arith
+
+pub returns-else-h-eq2 : goal.returns-else-h-eq2
+unfolding nxt
+returns-else-h-eq2 c = omega arith

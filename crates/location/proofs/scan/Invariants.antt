@@ -1,0 +1,14 @@
+use mathlib.Core.Path.{◌≡◌, refl, sym, ap, ◌∙◌}
+use Prim.Native.Nat.{◌-◌, ◌≤◌}
+use native.Mathlib.Omega.{arith}
+use Rattle.tables.specs.Data.{point}
+use Rattle.nets.specs.Layout.{net_of}
+use Rattle.nets.specs.Location.{scan}
+use Rattle.location.proofs.Walks.{in_it, not_in, scan_more, scan_found}
+use Rattle.location.proofs.scan.Given as goal
+
+abbrev pub invariant-loop-t : goal.invariant-loop-t
+invariant-loop-t l = (l.t ≤ l.count) × (scan (point l.points) (net_of l.work l.count) (point l.points l.p) l.t ≡ 0)
+
+abbrev pub decreases-loop-t : goal.decreases-loop-t
+decreases-loop-t l = l.count - l.t

@@ -1,0 +1,23 @@
+use borrow.Author.Rules.{rules}
+use lib.IntN.{ℤ}
+use mir.Syntax.{w32}
+use Rattle.plane.specs.Points.{Pt}
+use Rattle.tables.specs.Data.{point}
+use Rattle.segments.proofs.Compare.{same_bits, other_bits, eq_bits}
+use Rattle.point_checks.proofs.at_one_place.Goals as goal
+use Rattle.point_checks.proofs.at_one_place.Goals.{Start}
+
+abbrev p : Start → Pt ℤ
+p s = point s.args.points.now s.args.i
+
+abbrev q : Start → Pt ℤ
+q s = point s.args.points.now s.args.j
+
+pub returns-then-points-i : goal.returns-then-points-i
+unfolding point
+returns-then-points-i c = rw (same_bits w32 (p (goal.at.returns-then-points-i c).Start).x (q (goal.at.returns-then-points-i c).Start).x (record { sfits = c.t7-1.given }) (record { sfits = c.t11-1.given }) c.if-points-i.true)
+    (eq_bits w32 (p (goal.at.returns-then-points-i c).Start).y (q (goal.at.returns-then-points-i c).Start).y (record { sfits = c.result-1.given }) (record { sfits = c.result-then-points-i-1.given }))
+
+pub returns-else-points-i : goal.returns-else-points-i
+unfolding point
+returns-else-points-i c = rw (other_bits w32 (p (goal.at.returns-else-points-i c).Start).x (q (goal.at.returns-else-points-i c).Start).x (record { sfits = c.t7-1.given }) (record { sfits = c.t11-1.given }) c.if-points-i.false)

@@ -1,0 +1,13 @@
+use mathlib.Core.Path.{◌≡◌, refl, subst}
+use Prim.Native.Nat.{ℕ, ◌-◌, ◌≤◌, ◌<◌}
+use native.Mathlib.Omega.{arith}
+use lib.ListN.{length, length-set}
+use Rattle.ranks.specs.Items.{number, Marked}
+use Rattle.ranks.proofs.Loops.{marked_none, marked_more, number_kept}
+use Rattle.ranks.proofs.mark.Given as goal
+
+abbrev pub invariant-loop-k : goal.invariant-loop-k
+invariant-loop-k l = (l.k ≤ l.n) × (length l.work ≡ length l.initial.work) × Marked l.initial.work l.lo l.n l.k l.work
+
+abbrev pub decreases-loop-k : goal.decreases-loop-k
+decreases-loop-k l = l.n - l.k

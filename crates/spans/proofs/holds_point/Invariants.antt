@@ -1,0 +1,11 @@
+use Prim.Native.Nat.{◌-◌}
+use native.Mathlib.Omega.{arith}
+use Rattle.tables.proofs.Table.{near_list}
+use Rattle.spans.proofs.Between.{Tried, next, found, ended}
+use Rattle.spans.proofs.holds_point.Given as goal
+
+abbrev pub invariant-loop-r : goal.invariant-loop-r
+invariant-loop-r l = Tried l.points l.work l.a l.b l.lo l.r
+
+abbrev pub decreases-loop-r : goal.decreases-loop-r
+decreases-loop-r l = l.hi - l.r

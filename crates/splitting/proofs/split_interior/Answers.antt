@@ -1,0 +1,15 @@
+use borrow.Author.Rules.{rules}
+use mathlib.Core.Path.{◌≡◌, refl, sym, ap, ◌∙◌, subst}
+use Prim.Native.Nat.{ℕ, suc, ◌+◌, ◌*◌, ◌/◌}
+use native.Mathlib.Omega.{arith}
+use Rattle.splitting.specs.Splits.{inside_pushed}
+use Rattle.splitting.proofs.split_interior.Goals as goal
+
+pub returns : goal.returns
+unfolding inside_pushed
+returns c = rw (
+  c.push-3.ensures,
+  c.push-2.ensures,
+  c.push.ensures,
+  c.split_interior.ensures,
+)

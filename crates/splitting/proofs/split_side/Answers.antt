@@ -1,0 +1,14 @@
+use borrow.Author.Rules.{rules}
+use mathlib.Core.Path.{◌≡◌, refl, sym, ap, ◌∙◌, subst}
+use Prim.Native.Nat.{ℕ, suc, ◌+◌, ◌*◌, ◌/◌}
+use native.Mathlib.Omega.{arith}
+use Rattle.splitting.specs.Splits.{side_pushed}
+use Rattle.splitting.proofs.split_side.Goals as goal
+
+pub returns : goal.returns
+unfolding side_pushed
+returns c = rw (
+  c.push-2.ensures,
+  c.push.ensures,
+  c.split_side.ensures,
+)
