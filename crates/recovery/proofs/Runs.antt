@@ -1,7 +1,7 @@
 -- The answers of the parts, read with the pair's own ends. Assumes nothing.
 use mathlib.Core.List.{List, [], ◌∷◌}
 use mathlib.Core.Logic.{◌⊎◌, inl, inr}
-use mathlib.Core.Path.{◌≡◌, sym, subst}
+use mathlib.Core.Path.{◌≡◌, sym, subst, refl}
 use Prim.Native.Nat.{ℕ, ◌*◌, ◌+◌, ◌<◌}
 use lib.IntN.{ℤ}
 use Rattle.plane.specs.Points.{Pt}
@@ -34,9 +34,10 @@ module _ (P : ℕ → Pt ℤ) (n T : ℕ) {a b a' b' : ℕ} (i : a ≡ a') (j : 
   told m r t = subst (λ (v : ℕ). Told (Neither P m a' v) P m a' v r) j (subst (λ (u : ℕ). Told (Neither P m u b) P m u b r) i t)
 
 -- an answer that is neither an edge nor an entry edge
-pub nothing : (N : Type 0) (P : ℕ → Pt ℤ) (m : Net) (a b : ℕ) (o : Around) → OneOf (1 ∷ 2 ∷ []) (tag_of the_type o) → OneOf (0 ∷ 2 ∷ []) (tag_of the_type o) → Told N P m a b o → N
-nothing N P m a b (Edge t e) k q x = absurd (elim k [ inl i ↦ (let z : ⊥ = omega arith in z) | inr i ↦ (let z : ⊥ = omega arith in z) ])
-nothing N P m a b (Entry t e) k q x = absurd (elim q [ inl i ↦ (let z : ⊥ = omega arith in z) | inr i ↦ (let z : ⊥ = omega arith in z) ])
+pub nothing : (N : Type 0) (P : ℕ → Pt ℤ) (m : Net) (a b : ℕ) (o : Around) → ((t e : ℕ) → ¬ (o ≡ Edge t e)) → ((t e : ℕ) → ¬ (o ≡ Entry t e)) →
+    Told N P m a b o → N
+nothing N P m a b (Edge t e) k q x = absurd (k t e refl)
+nothing N P m a b (Entry t e) k q x = absurd (q t e refl)
 nothing N P m a b Nothing k q x = x
 
 pub edge_told : (N : Type 0) (P : ℕ → Pt ℤ) (m : Net) (a b : ℕ) {o : Around} {t e : ℕ} → o ≡ Edge t e → Told N P m a b o → Names m (Between m a b) t e
