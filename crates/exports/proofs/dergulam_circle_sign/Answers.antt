@@ -8,22 +8,17 @@ use Rattle.algebra.proofs.Machine.{Fit, backs_fit}
 use Rattle.plane.specs.Points.{at}
 use Rattle.signs.specs.Answers.{limit, circleAnswer, wholeNumber}
 use Rattle.sign_numbers.proofs.Numbers.{whole_read}
-use Rattle.exports.proofs.dergulam_circle_sign.Statement.{statement}
-use Rattle.exports.proofs.dergulam_circle_sign.Tie as tie
+use Rattle.exports.proofs.dergulam_circle_sign.Goals as goal
+use Rattle.exports.proofs.dergulam_circle_sign.Goals.{Start}
 
-abbrev ρ : tie.Start → List ℤ
+abbrev ρ : Start → List ℤ
 ρ c = c.args.ax ∷ c.args.ay ∷ c.args.bx ∷ c.args.by ∷ c.args.cx ∷ c.args.cy ∷ c.args.dx ∷ c.args.dy ∷ []
 
-fit : (c : tie.Start) → Fit w32 (ρ c)
+fit : (c : Start) → Fit w32 (ρ c)
 fit c = (c.ranges.ax, (c.ranges.ay, (c.ranges.bx, (c.ranges.by, (c.ranges.cx, (c.ranges.cy, (c.ranges.dx, (c.ranges.dy, tt))))))))
 
-returns : tie.Need-returns
-returns c =
-    let s = c.before.before in
-    whole_read c.before.circle-sign.result c.number_of_lem.ensures
-    ∙ ap wholeNumber (c.before.circle-sign.ensures ∙ ap
+pub returns : goal.returns
+returns c = whole_read c.circle_sign.result c.number_of.ensures
+    ∙ ap wholeNumber (c.circle_sign.ensures ∙ ap
     (λ (xs : List ℤ). circleAnswer limit (at (look xs 0) (look xs 1)) (at (look xs 2) (look xs 3)) (at (look xs 4) (look xs 5))
-    (at (look xs 6) (look xs 7))) (backs_fit w32 (ρ s) (fit s)))
-
-pub dergulam-circle-sign-spec : {M : Type 1} → statement M
-dergulam-circle-sign-spec = tie.close (tie.spec (λ c κs. search rules) (λ c κs. search rules) returns)
+    (at (look xs 6) (look xs 7))) (backs_fit w32 (ρ (goal.at.returns c).Start) (fit (goal.at.returns c).Start)))
