@@ -1,6 +1,6 @@
 /* Dergulam: cuts a figure of points and lines into a sheet of triangles, and judges such a sheet.
  *
- * The library is target/staticlib/libexports.a, which `rt staticlib exports` proves and writes. It is for x86-64 Linux. Of the C library it needs no
+ * The library is crates/exports/out/libexports.a, which `rt lib` in crates/exports proves and writes. It is for x86-64 Linux. Of the C library it needs no
  * more than memset, memcpy and memmove. It takes no memory, keeps nothing between calls, and reads and writes nothing but the lists that it is lent, so
  * calls on different lists may run at once.
  *

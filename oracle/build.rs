@@ -8,7 +8,8 @@
 //!
 //! `oracle/compare`, `oracle/figures` and `bench/cut` set the variables that are read here:
 //! - `ORACLE_SOURCE`, the folder of the original's source files, the one with its `linalg.rs`;
-//! - `ORACLE_LIBRARY`, the folder of the static libraries, where one is linked.
+//! - `ORACLE_CRATES`, the folder of the crates, where a static library is linked: it is in the `out/`
+//!   folder of its crate.
 
 use std::path::{Path, PathBuf};
 use std::{env, fs, process};
@@ -44,7 +45,7 @@ const TREE: &[(&str, Made)] = &[
 fn main() {
     println!("cargo:rerun-if-changed=build.rs");
     println!("cargo:rerun-if-env-changed=ORACLE_SOURCE");
-    println!("cargo:rerun-if-env-changed=ORACLE_LIBRARY");
+    println!("cargo:rerun-if-env-changed=ORACLE_CRATES");
     make_tree();
     if env::var_os("CARGO_FEATURE_LINKED").is_some() {
         link("signs_c");
@@ -79,7 +80,7 @@ fn make_tree() {
 
 /// Links the static library of this crate of the project.
 fn link(name: &str) {
-    let folder = folder("ORACLE_LIBRARY");
+    let folder = folder("ORACLE_CRATES").join(name).join("out");
     let library = folder.join(format!("lib{name}.a"));
     println!("cargo:rerun-if-changed={}", library.display());
     println!("cargo:rustc-link-search=native={}", folder.display());

@@ -17,7 +17,7 @@ use signs::Sign;
 // Refusal 4's limit as a float.
 const FLOAT_LIMIT: f64 = signs::LIMIT as f64;
 
-#[derive(Drop)]
+#[derive(Clone, Copy)]
 pub struct Vec2 {
     pub x: f64,
     pub y: f64,

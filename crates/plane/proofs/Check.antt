@@ -1,5 +1,5 @@
 -- This test computes whether a list of triples tiles the base, and holds exactly where it does. An example follows it: a base is cut in
--- three, and a place lies strictly inside one of the three. Assumes nothing.
+-- three. Assumes nothing.
 use mathlib.Core.Path.{◌≡◌}
 use mathlib.Core.Bool.{Bool, not, ◌&&◌, ◌||◌}
 use mathlib.Core.List.{[], ◌∷◌}
@@ -8,19 +8,18 @@ use Prim.Native.Nat.{ℕ, ◌*◌, ◌<◌}
 use lib.Dec.{T, eqb}
 use lib.IntN.{ℤ, pos}
 use lib.ListN.{get_or}
-use lib.Signed.{lt_z_yes}
 use Rattle.algebra.specs.Sum.{sum_to}
 use Rattle.plane.specs.Points.{Pt, at}
 use Rattle.plane.specs.Determinants.{orient}
 use Rattle.plane.specs.Places.{Place, line}
-use Rattle.plane.specs.Base.{Side, s0, s1, s2, next, On, Within, area_of_base}
+use Rattle.plane.specs.Base.{Side, s0, s1, s2, next, On, area_of_base}
 use Rattle.plane.specs.Halfedges.{nxt}
-use Rattle.plane.specs.Cover.{StrictlyIn, Clear, One}
+use Rattle.plane.specs.Cover.{Clear}
 use Rattle.plane.specs.Tiles.{OnSide, triple_area, Tiles}
 use Rattle.algebra.specs.Tests.{posb, eq_z}
 use Rattle.algebra.specs.Tests.{all_to, any_to}
 use Rattle.plane.proofs.Test.{Reads, reads_as, reads_eq, reads_eq_z, reads_pos, reads_and, reads_or, reads_if, reads_not, reads_all}
-use Rattle.plane.proofs.Tiles.{reverseb, reads_reverse, tiles_one}
+use Rattle.plane.proofs.Tiles.{reverseb, reads_reverse}
 
 -- ---- rule 2
 
@@ -92,31 +91,17 @@ of_clear n o q t h l e = (reads_all (3 * n) (λ h. reads_not (reads_eq_z (line (
 
 -- ---- a base cut in three
 
-points : ℕ → Pt ℤ
+unfoldable pub points : ℕ → Pt ℤ
 points u = get_or (at (pos 0) (pos 0) ∷ at (pos 9) (pos 0) ∷ at (pos 0) (pos 9) ∷ at (pos 2) (pos 3) ∷ []) u (at (pos 0) (pos 0))
 
-base : Side → Pt ℤ
+unfoldable pub base : Side → Pt ℤ
 base s0 = points 0
 base s1 = points 1
 base s2 = points 2
 
-triples : ℕ → ℕ
+unfoldable pub triples : ℕ → ℕ
 triples h = get_or (0 ∷ 1 ∷ 3 ∷ 0 ∷ 3 ∷ 2 ∷ 1 ∷ 2 ∷ 3 ∷ []) h 0
 
-three_tiles : Tiles points base 3 triples
+pub three_tiles : Tiles points base 3 triples
 unfolding tilesb all_to any_to sum_to orient nxt points base triples
 three_tiles = (reads_tiles points base 3 triples).says tt
-
--- The place (5/2, 2) lies strictly inside one of the three and no other.
-here : Place ℤ
-here = record { qx = pos 5; qy = pos 4; qw = pos 2 }
-
-within : Within base here
-unfolding base points here line
-within s0 = lt_z_yes tt
-within s1 = lt_z_yes tt
-within s2 = lt_z_yes tt
-
-three_here : One 3 (StrictlyIn (λ h. points (triples h)) here)
-unfolding all_to line orient nxt points base triples here
-three_here = tiles_one three_tiles (lt_z_yes tt) here (lt_z_yes tt) within (of_clear 3 (λ h. points (triples h)) here tt)

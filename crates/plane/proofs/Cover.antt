@@ -22,7 +22,7 @@ use Rattle.plane.proofs.Polynomials.{PtE, orient_e, line_e, by_q3}
 use Rattle.plane.proofs.Orient.{orient_cyc, thin_aab}
 use Rattle.algebra.specs.Tests.{posb}
 use Rattle.plane.proofs.Sign.{posb_yes, posb_pos, ind, and_1, and_2, nn_strict, nn_cancel}
-use Rattle.plane.proofs.Crossing.{inside}
+use Rattle.plane.proofs.Crossed.{inside}
 use Rattle.plane.proofs.Halfedges.{nxt0, nxt1, nxt2, third, third1, third2}
 use Rattle.plane.proofs.Near.{near, tilt, near_pos, near_back, near_line, near_above, max_to, max_to_le, pos_num}
 use Rattle.plane.proofs.Count.{the_one, only_one}

@@ -5,6 +5,7 @@ pub mod Convex
 pub mod Line
 pub mod Sign
 pub mod Crossing
+pub mod Crossed
 pub mod Base
 pub mod Halfedges
 pub mod Near
@@ -15,3 +16,4 @@ pub mod Inner
 pub mod Test
 pub mod Tiles
 pub mod Check
+pub mod Three

@@ -1,12 +1,11 @@
 -- A place against the lines through points. Assumes nothing.
 use mathlib.Core.Path.{◌≡◌}
-use Prim.Native.Nat.{ℕ}
 use lib.IntN.{ℤ, pos, ◌+ℤ◌, ◌*ℤ◌, neg_ℤ}
-use Rattle.algebra.proofs.Ring.{Expr, var, con, ◌⊕◌, ◌⊖◌, ◌⊗◌, ⊝◌}
+use Rattle.algebra.proofs.Ring.{con, ◌⊕◌, ◌⊗◌, ⊝◌}
 use Rattle.plane.specs.Points.{Pt, at}
 use Rattle.plane.specs.Determinants.{orient}
 use Rattle.plane.specs.Places.{Place, line}
-use Rattle.plane.proofs.Polynomials.{PtE, orient_e, line_e, by3, by_q2, by_q3, by_q5}
+use Rattle.plane.proofs.Polynomials.{orient_e, line_e, by3, by_q2, by_q3, by_q5}
 
 -- the scaled orientation is the orientation: with u, v and the place all multiplied by W, and at a whole place as it is
 pub line_scaled : (q : Place ℤ) (u v : Pt ℤ) → q.qw *ℤ line u v q ≡ orient (at (q.qw *ℤ u.x) (q.qw *ℤ u.y)) (at (q.qw *ℤ v.x) (q.qw *ℤ v.y)) (at q.qx q.qy)

@@ -20,7 +20,7 @@ use Rattle.plane.specs.Mesh.{Mesh, Covers, whole, area}
 use Rattle.plane.proofs.Polynomials.{orient_e, by4}
 use Rattle.plane.proofs.Orient.{orient_swap, orient_sum, thin_aba, thin_abb}
 use Rattle.plane.proofs.Sign.{posb_yes, ind}
-use Rattle.plane.proofs.Crossing.{above, inside, cross, cross_anti, cross_tri, cross_side, prim}
+use Rattle.plane.proofs.Crossed.{above, inside, cross, cross_anti, cross_tri, cross_side, prim}
 use Rattle.plane.proofs.Base.{base_turned, flat_a, flat_b, corner, zero_cancel}
 use Rattle.plane.proofs.Halfedges.{third, third1, third2}
 

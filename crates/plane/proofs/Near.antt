@@ -19,7 +19,7 @@ use Rattle.plane.specs.Points.{Pt}
 use Rattle.plane.specs.Places.{Place, line}
 use Rattle.plane.proofs.Polynomials.{line_e, q_e, p_e}
 use Rattle.plane.proofs.Sign.{nn_zero}
-use Rattle.plane.proofs.Crossing.{above}
+use Rattle.plane.proofs.Crossed.{above}
 use Rattle.plane.proofs.Base.{pt_eq}
 
 -- ---- a multiple outweighs what is smaller

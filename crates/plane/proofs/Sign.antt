@@ -2,9 +2,9 @@
 -- Assumes nothing.
 use mathlib.Core.Path.{◌≡◌, refl, sym, ap, ◌∙◌, subst}
 use mathlib.Core.Bool.{Bool, true, false, not, cond}
-use lib.Dec.{T, eqb, eqb→eq, eqb_refl}
+use lib.Dec.{T, eqb→eq, eqb_refl}
 use lib.IntN.{ℤ, pos, negsuc, ◌+ℤ◌, ◌*ℤ◌, neg_ℤ, neg_ℤ-neg_ℤ, neg_ℤ-+ℤ, +ℤ_invl}
-use lib.Signed.{lt_z, lt_z_yes}
+use lib.Signed.{lt_z_yes}
 use Rattle.algebra.specs.Tests.{posb, eq_z}
 use Rattle.algebra.specs.Order.{Pos, NonNeg}
 use Rattle.algebra.proofs.Laws.{neg-*ℤ, *ℤ-neg}

@@ -12,7 +12,8 @@ use Rattle.plane.specs.Points.{Pt}
 use Rattle.cavities.proofs.Choice.{choice_clear}
 use Rattle.cavities.specs.Choices.{Clear, Chosen}
 use Rattle.routes.specs.Needles.{Pierce, Over, Needles, Apex, scan}
-use Rattle.routes.proofs.Step.{step, step', turn}
+use Rattle.routes.proofs.Step.{step, turn}
+use Rattle.routes.proofs.Mirror.{step'}
 
 module _ (z w : ℕ → Pt ℤ) (i j : ℕ) (ns : Needles z w i j) where
   over : (k : ℕ) → i < k → k < j → Over (z i) (z j) (z k) (w k)

@@ -11,7 +11,8 @@ use Rattle.plane.specs.Points.{Pt}
 use Rattle.routes.specs.Gates.{Between, lead, Before, Beyond, Next, to_left, to_right}
 use Rattle.routes.specs.Needles.{Pierce}
 use Rattle.routes.proofs.Start.{between, between_turn}
-use Rattle.routes.proofs.Step.{pos_or, turn, mir, pos_mir, mir_pos, mir_nn}
+use Rattle.routes.proofs.Step.{pos_or, turn}
+use Rattle.routes.proofs.Mirror.{mir, pos_mir, mir_pos, mir_nn}
 
 lean_a : (a b p q w : Pt ℤ) → orient b a q *ℤ (orient p q w +ℤ (orient w q a +ℤ orient q p a)) +ℤ (orient a b p *ℤ orient w q a +ℤ orient a b w *ℤ orient q p a) ≡ pos 0
 unfolding orient

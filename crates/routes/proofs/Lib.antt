@@ -1,4 +1,5 @@
 pub mod Step
+pub mod Mirror
 pub mod Chain
 pub mod Scan
 pub mod Start

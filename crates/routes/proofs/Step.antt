@@ -1,5 +1,5 @@
 -- The step of the filling on six bare points: two needles pierce a base, and the one whose left end is the apex stands behind. Then the
--- other one pierces the sub-base before the apex. The mirror, by reflecting the points. Assumes nothing.
+-- other one pierces the sub-base before the apex. Mirror.antt has the same for the sub-base behind it. Assumes nothing.
 use mathlib.Core.List.{[], ◌∷◌}
 use mathlib.Core.Path.{◌≡◌, sym, ap, ap₂, ◌∙◌}
 use lib.IntN.{ℤ, pos, ◌+ℤ◌, ◌-ℤ◌, ◌*ℤ◌, neg_ℤ, zero-*ℤ, *ℤ_comm, +ℤ_invl, neg_ℤ-neg_ℤ}
@@ -164,88 +164,35 @@ unfolding orient
 s3_id = by5 (λ x y c v r. orient_e x y v ⊗ orient_e c x r) (λ x y c v r. orient_e x y c ⊗ orient_e r v x ⊕ orient_e y x r ⊗ orient_e x c v) tt
 
 module _ (x y v r c R : Pt ℤ) (p : Pierce x y v r) (o : Over x y c R) (a : Apart v r c R) (n : ¬ (v ≡ c)) (i : Clear x y c v) where
-  s1 : Pos (orient x c v)
-  s1 = pos_or (orient x c v) (orient c x v) (turn x c v) (λ h. h)
-      (λ ey. absurd (bad ey (pos_or (orient c y v) (orient y c v) (turn c y v) (λ h. h) (λ ex. absurd (outside x y c v o.left p.left n i ex ey)))))
-    where
-      bad : NonNeg (orient c x v) → Pos (orient c y v) → ⊥
-      bad ey ex = pos_or (orient v r c) (orient r v c) (turn v r c) cross (sides v r c R a n (pos_nn kv))
-        where
-          kv : Pos (orient c R v)
-          kv = pos_cancel (pos_nn o.left) (pos_by (s1_k x y c v R) (pos+nn (pos*pos ex o.before) (nn*pos ey o.after)))
-
-          cross : Pos (orient v r c) → ⊥
-          cross h = not_zero (pos+nn (pos*pos (nn+pos ey (pos+pos p.before h)) kv) (nn+nn (nn*pos ey (a.q1 (pos_nn kv))) (pos_nn (pos*pos h o.before)))) (s1_end x c v r R)
-
-  s2 : Pos (orient v r c)
-  s2 = pos_or (orient v r c) (orient r v c) (turn v r c) (λ h. h) (λ h. absurd (bad h))
-    where
-      bad : NonNeg (orient r v c) → ⊥
-      bad hc = pos_or (orient R c v) (orient c R v) (turn R c v) go (λ kv. sides v r c R a n kv hc)
-        where
-          ex : Pos (orient c y v)
-          ex = pos_cancel (pos_nn p.before) (pos_by (s2_ex x y c v r) (pos+nn (pos*pos s1 p.after) (nn*nn (pos_nn p.left) hc)))
-
-          go : Pos (orient R c v) → ⊥
-          go kv = not_zero (pos+nn (pos*pos (pos+nn (a.q2 hc) (nn+nn (pos_nn kv) hc)) (pos+pos s1 ex))
-              (nn+nn (pos_nn (pos*pos kv (pos+pos o.left p.right))) (nn*pos hc (pos+pos o.before o.after)))) (s2_end x y c v r R)
-
-  s3 : Pos (orient c x r)
-  s3 = pos_cancel (pos_nn p.left) (pos_by (s3_id x y c v r) (pos+pos (pos*pos o.left p.before) (pos*pos p.right s1)))
-
   -- THE STEP: a needle before the apex's pierces the base before the apex
   pub step : Pierce x c v r
   step = record { left = s1; right = s3; before = p.before; after = s2 }
+    where
+      s1 : Pos (orient x c v)
+      s1 = pos_or (orient x c v) (orient c x v) (turn x c v) (λ h. h)
+          (λ ey. absurd (bad ey (pos_or (orient c y v) (orient y c v) (turn c y v) (λ h. h) (λ ex. absurd (outside x y c v o.left p.left n i ex ey)))))
+        where
+          bad : NonNeg (orient c x v) → Pos (orient c y v) → ⊥
+          bad ey ex = pos_or (orient v r c) (orient r v c) (turn v r c) cross (sides v r c R a n (pos_nn kv))
+            where
+              kv : Pos (orient c R v)
+              kv = pos_cancel (pos_nn o.left) (pos_by (s1_k x y c v R) (pos+nn (pos*pos ex o.before) (nn*pos ey o.after)))
 
--- ---- the mirror
+              cross : Pos (orient v r c) → ⊥
+              cross h = not_zero (pos+nn (pos*pos (nn+pos ey (pos+pos p.before h)) kv) (nn+nn (nn*pos ey (a.q1 (pos_nn kv))) (pos_nn (pos*pos h o.before)))) (s1_end x c v r R)
 
-abbrev pub mir : Pt ℤ → Pt ℤ
-mir p = record { x = neg_ℤ p.x; y = p.y }
+      s2 : Pos (orient v r c)
+      s2 = pos_or (orient v r c) (orient r v c) (turn v r c) (λ h. h) (λ h. absurd (bad h))
+        where
+          bad : NonNeg (orient r v c) → ⊥
+          bad hc = pos_or (orient R c v) (orient c R v) (turn R c v) go (λ kv. sides v r c R a n kv hc)
+            where
+              ex : Pos (orient c y v)
+              ex = pos_cancel (pos_nn p.before) (pos_by (s2_ex x y c v r) (pos+nn (pos*pos s1 p.after) (nn*nn (pos_nn p.left) hc)))
 
-abbrev pub mir_e : PtE → PtE
-mir_e p = record { x = ⊝ p.x; y = p.y }
+              go : Pos (orient R c v) → ⊥
+              go kv = not_zero (pos+nn (pos*pos (pos+nn (a.q2 hc) (nn+nn (pos_nn kv) hc)) (pos+pos s1 ex))
+                  (nn+nn (pos_nn (pos*pos kv (pos+pos o.left p.right))) (nn*pos hc (pos+pos o.before o.after)))) (s2_end x y c v r R)
 
-pub mir_orient : (a b c : Pt ℤ) → orient (mir a) (mir b) (mir c) ≡ orient b a c
-unfolding orient
-mir_orient = by3 (λ a b c. orient_e (mir_e a) (mir_e b) (mir_e c)) (λ a b c. orient_e b a c) tt
-
-mir_circle : (a b c d : Pt ℤ) → incircle (mir b) (mir a) (mir c) (mir d) ≡ incircle a b c d
-unfolding incircle
-mir_circle = by4 (λ a b c d. incircle_e (mir_e b) (mir_e a) (mir_e c) (mir_e d)) (λ a b c d. incircle_e a b c d) tt
-
-pub mir_same : (a b : Pt ℤ) → mir a ≡ mir b → a ≡ b
-mir_same a b e = λ i. record { x = (sym (neg_ℤ-neg_ℤ a.x) ∙ ap (λ (p : Pt ℤ). neg_ℤ p.x) e ∙ neg_ℤ-neg_ℤ b.x) i; y = (e i).y }
-
-pub pos_mir : (a b c : Pt ℤ) → Pos (orient b a c) → Pos (orient (mir a) (mir b) (mir c))
-pos_mir a b c h = pos_by (mir_orient a b c) h
-
-pub mir_pos : (a b c : Pt ℤ) → Pos (orient (mir a) (mir b) (mir c)) → Pos (orient b a c)
-mir_pos a b c h = pos_by (sym (mir_orient a b c)) h
-
-pub mir_nn : (a b c : Pt ℤ) → NonNeg (orient (mir a) (mir b) (mir c)) → NonNeg (orient b a c)
-mir_nn a b c h = nn_by (sym (mir_orient a b c)) h
-
-mir_apart : (v r c R : Pt ℤ) → Apart c R v r → Apart (mir v) (mir r) (mir c) (mir R)
-mir_apart v r c R a = record {
-  q1 = λ h. pos_mir R c r (a.q2 (mir_nn c R v h));
-  q2 = λ h. pos_mir v r R (a.q1 (mir_nn r v c h));
-  qa = λ f g h k. a.qa (mir_pos c R v k) (mir_pos R c r h) (mir_pos v r R g) (mir_pos r v c f);
-  qb = λ e h k. a.qc (sym (mir_orient r v c) ∙ e) (mir_pos c R v k) (mir_pos R c r h);
-  qc = λ e h k. a.qb (sym (mir_orient c R v) ∙ e) (mir_pos v r R k) (mir_pos r v c h);
-}
-
--- THE STEP, mirrored: a needle behind the apex's pierces the base behind the apex
-pub step' : (x y v r c R : Pt ℤ) → Pierce x y v r → Over x y c R → Apart c R v r → ¬ (v ≡ c) → Clear x y c v → Pierce c y v r
-step' x y v r c R p o a n i =
-    let s = step (mir y) (mir x) (mir v) (mir r) (mir c) (mir R)
-    (record {
-      left = pos_mir y x v p.left;
-      right = pos_mir x y r p.right;
-      before = pos_mir r v y p.after;
-      after = pos_mir v r x p.before;
-    }) (record {
-      left = pos_mir y x c o.left;
-      before = pos_mir R c y o.after;
-      after = pos_mir c R x o.before;
-    }) (mir_apart v r c R a) (λ e. n (mir_same v c e)) (nn_by (ap neg_ℤ (mir_circle x y c v)) i) in
-    record { left = mir_pos y c v s.left; right = mir_pos c y r s.right; before = mir_pos v r c s.after; after = mir_pos r v y s.before }
+      s3 : Pos (orient c x r)
+      s3 = pos_cancel (pos_nn p.left) (pos_by (s3_id x y c v r) (pos+pos (pos*pos o.left p.before) (pos*pos p.right s1)))

@@ -14,12 +14,11 @@ more-v-requires c = let l = c.loop-i in
     (read_small _ _ _ _ l.invariant.1, digit_from _ d, digit_to _ d)
 
 pub loop-i-preserved : goal.loop-i-preserved
-loop-i-preserved c = let l = c.loop-i in
-    (
-      omega arith,
-      read_more c.args.text.now c.args.from l.i l.v l.invariant.1 c.more-v.result
-          (sym c.is_digit.ensures ∙ c.if-is_digit.true) c.more-v.ensures,
-    )
+loop-i-preserved c = let l = c.loop-i in (
+  omega arith,
+  read_more c.args.text.now c.args.from l.i l.v l.invariant.1 c.more-v.result
+      (sym c.is_digit.ensures ∙ c.if-is_digit.true) c.more-v.ensures,
+)
 
 pub returns-else-is_digit : goal.returns-else-is_digit
 returns-else-is_digit c = let l = c.loop-i in
