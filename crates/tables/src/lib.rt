@@ -28,14 +28,14 @@ pub enum Refusal {
 }
 
 // What the checks answer.
-#[derive(Drop)]
+#[derive(Clone, Copy)]
 pub enum Checked {
     Passed,
     Refused(Refusal),
 }
 
 // What the checker answers: yes, the lowest broken rule, or a refusal.
-#[derive(Drop)]
+#[derive(Clone, Copy)]
 pub enum Verdict {
     Yes,
     Breaks(u32),
@@ -43,7 +43,7 @@ pub enum Verdict {
 }
 
 // The lowest index that offends, or that there is none.
-#[derive(Drop)]
+#[derive(Clone, Copy)]
 pub enum Lowest {
     At(usize),
     Nowhere,
