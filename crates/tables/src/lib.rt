@@ -28,14 +28,14 @@ pub enum Refusal {
 }
 
 // What the checks answer.
-#[derive(Clone, Copy)]
+#[derive(Drop)]
 pub enum Checked {
     Passed,
     Refused(Refusal),
 }
 
 // What the checker answers: yes, the lowest broken rule, or a refusal.
-#[derive(Clone, Copy)]
+#[derive(Drop)]
 pub enum Verdict {
     Yes,
     Breaks(u32),
@@ -43,7 +43,7 @@ pub enum Verdict {
 }
 
 // The lowest index that offends, or that there is none.
-#[derive(Clone, Copy)]
+#[derive(Drop)]
 pub enum Lowest {
     At(usize),
     Nowhere,
