@@ -97,19 +97,7 @@ fn of_lists(
     answer(rt, name, is_picture, &points[..a], &pairs[..b])
 }
 
-// What is said of a text that is no figure. There is no room where a count asks for more numbers than the text has words.
-fn no_figure(rt: HostRuntime, name: &[u8], text: &[u8], read: Answer) {
-    let err = rt.stderr();
-    match read {
-        Answer::Figure(_, _) => {}
-        Answer::NotANumber(place) => messages::not_a_number(err, name, text, place),
-        Answer::DoesNotFit(place) => messages::does_not_fit(err, name, text, place),
-        Answer::TooFew => messages::too_few(err, name, text),
-        Answer::TooMany(place) => messages::too_many(err, name, text, place),
-        Answer::NoRoom => messages::too_few(err, name, text),
-    }
-}
-
+// There is no room where a count asks for more numbers than the text has words.
 fn figure_in(
     rt: HostRuntime,
     name: &[u8],
@@ -118,14 +106,19 @@ fn figure_in(
     points: &mut [i32],
     pairs: &mut [u32],
 ) -> bool {
+    let err = rt.stderr();
     let read = texts::read_figure(text, points, pairs);
     match read {
-        Answer::Figure(n, m) => of_lists(rt, name, is_picture, points, pairs, n, m),
-        fault => {
-            no_figure(rt, name, text, fault);
-            false
+        Answer::Figure(n, m) => {
+            return of_lists(rt, name, is_picture, points, pairs, n, m);
         }
+        Answer::NotANumber(place) => messages::not_a_number(err, name, text, place),
+        Answer::DoesNotFit(place) => messages::does_not_fit(err, name, text, place),
+        Answer::TooFew => messages::too_few(err, name, text),
+        Answer::TooMany(place) => messages::too_many(err, name, text, place),
+        Answer::NoRoom => messages::too_few(err, name, text),
     }
+    false
 }
 
 // A text of 524,288 bytes has at most 262,144 words, so each list has room for all of them, and every refusal of the counts is the table's.
@@ -185,6 +178,14 @@ fn from_path(rt: HostRuntime, path: &[u8], is_picture: bool) -> bool {
     }
 }
 
+// The system's numbers of these errors: a name that is too long, and an argument that is missing.
+fn no_name(why: FillError) -> Error {
+    match why {
+        FillError::TooLong => Error::from_raw_os_error(36),
+        FillError::NotPresent => Error::from_raw_os_error(22),
+    }
+}
+
 fn from_file(rt: HostRuntime, i: usize, is_picture: bool) -> bool {
     let mut path = [0u8; 4096];
     match rt.arg(i, &mut path) {
@@ -193,14 +194,6 @@ fn from_file(rt: HostRuntime, i: usize, is_picture: bool) -> bool {
             failures::fail(rt.stderr(), b"the file's name", &no_name(why));
             false
         }
-    }
-}
-
-// The system's numbers of these errors: a name that is too long, and an argument that is missing.
-fn no_name(why: FillError) -> Error {
-    match why {
-        FillError::TooLong => Error::from_raw_os_error(36),
-        FillError::NotPresent => Error::from_raw_os_error(22),
     }
 }
 
