@@ -1,13 +1,17 @@
 // Runs the cases of document 01 through the cutter: the sheets and refusals that it names, each row of the table, the order of its rows, the
 // limits, and small figures whose pairs are hard to recover.
+#![tactic(auto)]
+
 mod limits;
 mod pairs;
 mod proved;
 mod refusals;
 
-fn main() {
-    proved::all();
-    refusals::all();
-    limits::all();
-    pairs::all();
+use std::io;
+
+fn main(rt: HostRuntime) -> io::Result<()> {
+    proved::all(&rt)?;
+    refusals::all(&rt)?;
+    limits::all(&rt)?;
+    pairs::all(&rt)
 }

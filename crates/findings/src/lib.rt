@@ -1,4 +1,6 @@
 // What the cutter answers and leaves, compared with what is expected, and what is told of it.
+#![tactic(auto)]
+
 pub mod telling;
 
 use tables::Refusal;
@@ -38,12 +40,10 @@ fn has(list: &[u32], i: usize, value: usize) -> bool {
 
 // All the numbers from a place on, up to another, are this one.
 fn is_all(list: &[u32], from: usize, end: usize, value: usize) -> bool {
-    let mut i = from;
-    while i < end {
+    for i in from..end {
         if !has(list, i, value) {
             return false;
         }
-        i += 1;
     }
     true
 }
@@ -61,12 +61,10 @@ fn agree(list: &[u32], other: &[u32], count: usize) -> bool {
     if list.len() < count {
         return false;
     }
-    let mut i = 0;
-    while i < count {
+    for i in 0..count {
         if !has(other, i, entry(list, i)) {
             return false;
         }
-        i += 1;
     }
     true
 }

@@ -1,4 +1,6 @@
 // The numbers of a picture: where its points are, and its frame.
+#![tactic(auto)]
+
 ghost use Rattle.std.specs.Prelude.{◌≤◌};
 
 // A coordinate and 8,192, which is not below 0. Every coordinate of a sheet is within the limit.

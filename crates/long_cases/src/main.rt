@@ -1,8 +1,12 @@
 // Runs the cases of document 01 that take many points or many pairs through the cutter.
+#![tactic(auto)]
+
 mod figures;
 mod limits;
 
-fn main() {
-    limits::all();
-    figures::all();
+use std::io;
+
+fn main(rt: HostRuntime) -> io::Result<()> {
+    limits::all(&rt)?;
+    figures::all(&rt)
 }

@@ -1,5 +1,8 @@
 // What is said on standard error where there is no answer: what is wrong, and where.
+#![tactic(auto)]
+
 use pages::Pen;
+use std::io::Write;
 use tables::Refusal;
 use texts::Step;
 
@@ -13,8 +16,7 @@ pub struct Spot {
 fn spot_of(text: &[u8], place: usize) -> Spot {
     let mut line = 1;
     let mut column = 1;
-    let mut i = 0;
-    while i < text.len() {
+    for i in 0..text.len() {
         if i >= place {
             return Spot { line, column };
         }
@@ -24,7 +26,6 @@ fn spot_of(text: &[u8], place: usize) -> Spot {
         } else {
             column = pages::one_more(column);
         }
-        i += 1;
     }
     Spot { line, column }
 }
@@ -33,89 +34,81 @@ fn spot_of(text: &[u8], place: usize) -> Spot {
 fn words(text: &[u8]) -> usize {
     let mut count = 0;
     let mut is_in_word = false;
-    let mut i = 0;
-    while i < text.len() {
-        let is_space = texts::is_space(text[i]);
-        if !is_space {
-            if !is_in_word {
-                count = pages::one_more(count);
-            }
+    for b in text {
+        let is_space = texts::is_space(*b);
+        if !is_space && !is_in_word {
+            count = pages::one_more(count);
         }
         is_in_word = !is_space;
-        i += 1;
     }
     count
 }
 
 // A byte that would not be seen is shown as a question mark.
 fn shown(b: u8) -> u8 {
-    if b < 33 {
-        b'?'
-    } else if b > 126 {
-        b'?'
-    } else {
-        b
-    }
+    if b < 33 || b > 126 { b'?' } else { b }
 }
 
 // The word at a place in quotes; of a long one the first 40 bytes.
-fn quoted(page: &mut [u8; 65536], pen: Pen, text: &[u8], place: usize) -> Pen {
-    let mut pen = pages::byte(page, pen, b'\'');
-    let mut i = place;
-    while i < text.len() {
+fn quoted<W: Write>(pen: &mut Pen<W>, text: &[u8], place: usize) {
+    pages::byte(pen, b'\'');
+    for i in place..text.len() {
         if texts::is_space(text[i]) {
-            return pages::byte(page, pen, b'\'');
+            break;
         }
         if i - place >= 40 {
-            return pages::text(page, pen, b"...'");
+            pages::text(pen, b"...");
+            break;
         }
-        pen = pages::byte(page, pen, shown(text[i]));
-        i += 1;
+        pages::byte(pen, shown(text[i]));
     }
-    pages::byte(page, pen, b'\'')
+    pages::byte(pen, b'\'');
 }
 
-fn start(page: &mut [u8; 65536], name: &[u8]) -> Pen {
-    let pen = pages::fresh(libc::STDERR_FILENO);
-    let pen = pages::text(page, pen, b"cut_figure: ");
-    let pen = pages::text(page, pen, name);
-    pages::text(page, pen, b": ")
+fn start<W: Write>(err: W, name: &[u8]) -> Pen<W> {
+    let mut pen = pages::fresh(err);
+    pages::text(&mut pen, b"cut_figure: ");
+    pages::text(&mut pen, name);
+    pages::text(&mut pen, b": ");
+    pen
 }
 
-fn start_at(page: &mut [u8; 65536], name: &[u8], text: &[u8], place: usize) -> Pen {
+fn start_at<W: Write>(err: W, name: &[u8], text: &[u8], place: usize) -> Pen<W> {
     let s = spot_of(text, place);
-    let pen = start(page, name);
-    let pen = pages::text(page, pen, b"line ");
-    let pen = pages::number(page, pen, s.line);
-    let pen = pages::text(page, pen, b", column ");
-    let pen = pages::number(page, pen, s.column);
-    pages::text(page, pen, b": ")
+    let mut pen = start(err, name);
+    pages::text(&mut pen, b"line ");
+    pages::number(&mut pen, s.line);
+    pages::text(&mut pen, b", column ");
+    pages::number(&mut pen, s.column);
+    pages::text(&mut pen, b": ");
+    pen
 }
 
-fn end(page: &mut [u8; 65536], pen: Pen) {
-    let pen = pages::byte(page, pen, b'\n');
-    pages::finish(page, pen);
+// What does not go out of a message is lost: there is nowhere left to say so.
+fn end<W: Write + Drop>(pen: Pen<W>) {
+    let mut pen = pen;
+    pages::byte(&mut pen, b'\n');
+    pages::finish(pen);
 }
 
 // A message with no place in a text.
-pub fn plain(name: &[u8], what: &[u8]) {
-    let mut page = [0u8; 65536];
-    let pen = start(&mut page, name);
-    let pen = pages::text(&mut page, pen, what);
-    end(&mut page, pen);
+pub fn plain<W: Write + Drop>(err: W, name: &[u8], what: &[u8]) {
+    let mut pen = start(err, name);
+    pages::text(&mut pen, what);
+    end(pen);
 }
 
 // A message about the word at a place.
-fn of_word(name: &[u8], text: &[u8], place: usize, what: &[u8]) {
-    let mut page = [0u8; 65536];
-    let pen = start_at(&mut page, name, text, place);
-    let pen = quoted(&mut page, pen, text, place);
-    let pen = pages::text(&mut page, pen, what);
-    end(&mut page, pen);
+fn of_word<W: Write + Drop>(err: W, name: &[u8], text: &[u8], place: usize, what: &[u8]) {
+    let mut pen = start_at(err, name, text, place);
+    quoted(&mut pen, text, place);
+    pages::text(&mut pen, what);
+    end(pen);
 }
 
-pub fn not_a_number(name: &[u8], text: &[u8], place: usize) {
+pub fn not_a_number<W: Write + Drop>(err: W, name: &[u8], text: &[u8], place: usize) {
     of_word(
+        err,
         name,
         text,
         place,
@@ -123,8 +116,9 @@ pub fn not_a_number(name: &[u8], text: &[u8], place: usize) {
     );
 }
 
-pub fn does_not_fit(name: &[u8], text: &[u8], place: usize) {
+pub fn does_not_fit<W: Write + Drop>(err: W, name: &[u8], text: &[u8], place: usize) {
     of_word(
+        err,
         name,
         text,
         place,
@@ -137,19 +131,19 @@ fn numbers(n: u32, m: u32) -> usize {
 }
 
 // How many numbers the two counts ask for, and how many words there are.
-fn balance(page: &mut [u8; 65536], pen: Pen, text: &[u8], n: u32, m: u32) -> Pen {
-    let pen = pages::text(page, pen, b"n = ");
-    let pen = pages::number(page, pen, n as usize);
-    let pen = pages::text(page, pen, b" and m = ");
-    let pen = pages::number(page, pen, m as usize);
-    let pen = pages::text(page, pen, b" ask for ");
-    let pen = pages::number(page, pen, numbers(n, m));
-    let pen = pages::text(page, pen, b" numbers, and the text has ");
-    pages::number(page, pen, words(text))
+fn balance<W: Write>(pen: &mut Pen<W>, text: &[u8], n: u32, m: u32) {
+    pages::text(pen, b"n = ");
+    pages::number(pen, n as usize);
+    pages::text(pen, b" and m = ");
+    pages::number(pen, m as usize);
+    pages::text(pen, b" ask for ");
+    pages::number(pen, numbers(n, m));
+    pages::text(pen, b" numbers, and the text has ");
+    pages::number(pen, words(text));
 }
 
 // The same, or which of the two counts is missing.
-fn counts(page: &mut [u8; 65536], pen: Pen, text: &[u8]) -> Pen {
+fn counts<W: Write>(pen: &mut Pen<W>, text: &[u8]) {
     let first = texts::take_number(text, 0, false);
     match first {
         Step::Taken {
@@ -165,115 +159,100 @@ fn counts(page: &mut [u8; 65536], pen: Pen, text: &[u8]) -> Pen {
                     size,
                     next: _,
                 } => {
-                    return balance(page, pen, text, n, size);
+                    return balance(pen, text, n, size);
                 }
                 Step::Stop(_) => {
-                    return pages::text(page, pen, b"m, the count of the pairs, is missing");
+                    return pages::text(pen, b"m, the count of the pairs, is missing");
                 }
             }
         }
         Step::Stop(_) => {
-            return pages::text(page, pen, b"n, the count of the points, is missing");
+            return pages::text(pen, b"n, the count of the points, is missing");
         }
     }
 }
 
-pub fn too_few(name: &[u8], text: &[u8]) {
-    let mut page = [0u8; 65536];
-    let pen = start_at(&mut page, name, text, text.len());
-    let pen = pages::text(&mut page, pen, b"the text ends too early: ");
-    let pen = counts(&mut page, pen, text);
-    end(&mut page, pen);
+pub fn too_few<W: Write + Drop>(err: W, name: &[u8], text: &[u8]) {
+    let mut pen = start_at(err, name, text, text.len());
+    pages::text(&mut pen, b"the text ends too early: ");
+    counts(&mut pen, text);
+    end(pen);
 }
 
-pub fn too_many(name: &[u8], text: &[u8], place: usize) {
-    let mut page = [0u8; 65536];
-    let pen = start_at(&mut page, name, text, place);
-    let pen = quoted(&mut page, pen, text, place);
-    let pen = pages::text(&mut page, pen, b" is too much: ");
-    let pen = counts(&mut page, pen, text);
-    end(&mut page, pen);
+pub fn too_many<W: Write + Drop>(err: W, name: &[u8], text: &[u8], place: usize) {
+    let mut pen = start_at(err, name, text, place);
+    quoted(&mut pen, text, place);
+    pages::text(&mut pen, b" is too much: ");
+    counts(&mut pen, text);
+    end(pen);
 }
 
 // ---- refusals
 
 // What the place of a refusal counts.
-fn counted(page: &mut [u8; 65536], pen: Pen, number: u32) -> Pen {
+fn counted<W: Write>(pen: &mut Pen<W>, number: u32) {
     match number {
-        4 | 6 | 7 => pages::text(page, pen, b", point "),
-        8..=11 => pages::text(page, pen, b", pair "),
-        _ => pages::text(page, pen, b", place "),
+        4 | 6 | 7 => pages::text(pen, b", point "),
+        8..=11 => pages::text(pen, b", pair "),
+        _ => pages::text(pen, b", place "),
     }
 }
 
-fn why_lists(page: &mut [u8; 65536], pen: Pen, number: u32) -> Pen {
+fn why_lists<W: Write>(pen: &mut Pen<W>, number: u32) {
     match number {
-        1 => pages::text(page, pen, b"a list has odd length"),
+        1 => pages::text(pen, b"a list has odd length"),
         2 => pages::text(
-            page,
             pen,
             b"fewer than 3 points, more than 4096 points or more than 12288 pairs",
         ),
-        _ => pages::text(page, pen, b"the output or the working area is too short"),
+        _ => pages::text(pen, b"the output or the working area is too short"),
     }
 }
 
-fn why_point(page: &mut [u8; 65536], pen: Pen, number: u32) -> Pen {
+fn why_point<W: Write>(pen: &mut Pen<W>, number: u32) {
     match number {
-        4 => pages::text(page, pen, b"a coordinate is below -8192 or above 8192"),
-        5 => pages::text(page, pen, b"the base has no area"),
-        6 => pages::text(page, pen, b"the point is outside the base"),
-        _ => pages::text(page, pen, b"the point equals one with a lower number"),
+        4 => pages::text(pen, b"a coordinate is below -8192 or above 8192"),
+        5 => pages::text(pen, b"the base has no area"),
+        6 => pages::text(pen, b"the point is outside the base"),
+        _ => pages::text(pen, b"the point equals one with a lower number"),
     }
 }
 
-fn why_pair(page: &mut [u8; 65536], pen: Pen, number: u32) -> Pen {
+fn why_pair<W: Write>(pen: &mut Pen<W>, number: u32) {
     match number {
         8 => pages::text(
-            page,
             pen,
             b"an end of the pair is no point, or its ends are equal",
         ),
-        9 => pages::text(
-            page,
-            pen,
-            b"a point lies strictly inside the pair's segment",
-        ),
-        10 => pages::text(page, pen, b"the pair crosses one with a lower index"),
-        _ => pages::text(page, pen, b"the recovery of the pair sticks"),
+        9 => pages::text(pen, b"a point lies strictly inside the pair's segment"),
+        10 => pages::text(pen, b"the pair crosses one with a lower index"),
+        _ => pages::text(pen, b"the recovery of the pair sticks"),
     }
 }
 
-fn why(page: &mut [u8; 65536], pen: Pen, number: u32) -> Pen {
+fn why<W: Write>(pen: &mut Pen<W>, number: u32) {
     match number {
-        1..=3 => why_lists(page, pen, number),
-        4..=7 => why_point(page, pen, number),
-        _ => why_pair(page, pen, number),
+        1..=3 => why_lists(pen, number),
+        4..=7 => why_point(pen, number),
+        _ => why_pair(pen, number),
     }
 }
 
-fn refusal(page: &mut [u8; 65536], pen: Pen, number: u32, place: usize) -> Pen {
-    let pen = pages::number(page, pen, pages::wide(number));
-    let pen = counted(page, pen, number);
-    let pen = pages::number(page, pen, place);
-    let pen = pages::text(page, pen, b": ");
-    why(page, pen, number)
+fn refusal<W: Write>(pen: &mut Pen<W>, number: u32, place: usize) {
+    pages::number(pen, pages::wide(number));
+    counted(pen, number);
+    pages::number(pen, place);
+    pages::text(pen, b": ");
+    why(pen, number);
 }
 
 // Why there is no picture.
-pub fn no_picture(name: &[u8], r: Refusal) {
-    let mut page = [0u8; 65536];
-    let pen = start(&mut page, name);
-    let pen = pages::text(
-        &mut page,
-        pen,
+pub fn no_picture<W: Write + Drop>(err: W, name: &[u8], r: Refusal) {
+    let mut pen = start(err, name);
+    pages::text(
+        &mut pen,
         b"no picture, since the figure is refused: refusal ",
     );
-    let pen = refusal(
-        &mut page,
-        pen,
-        row_numbers::number(r),
-        row_numbers::place(r),
-    );
-    end(&mut page, pen);
+    refusal(&mut pen, row_numbers::number(r), row_numbers::place(r));
+    end(pen);
 }

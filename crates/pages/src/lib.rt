@@ -1,96 +1,90 @@
 // Text on its way out. It gathers on a page, and a full page is written, so that a long answer takes few writes.
+#![tactic(auto)]
 
 ghost use Rattle.std.specs.Prelude.{◌≡◌};
 
-// The descriptor that the text goes to, how many bytes of the page are filled, and whether each write so far took all that it was given.
+use itoa::Buffer;
+use std::io::Write;
+
+// Where the text goes, the page, how many of its bytes are filled, and whether each write so far took all that it was given.
 #[derive(Drop)]
-pub struct Pen {
-    fd: i32,
+pub struct Pen<W> {
+    out: W,
+    page: [u8; 65536],
     at: usize,
     fine: bool,
 }
 
-pub fn fresh(fd: i32) -> Pen {
+pub fn fresh<W: Write>(out: W) -> Pen<W> {
     Pen {
-        fd,
+        out,
+        page: [0; 65536],
         at: 0,
         fine: true,
     }
 }
 
-pub fn byte(page: &mut [u8; 65536], pen: Pen, b: u8) -> Pen {
-    let fd = pen.fd;
+// Writes the first bytes of the page, as many as are filled, and begins it anew.
+fn put_out<W: Write>(pen: &mut Pen<W>) {
     let at = pen.at;
-    let fine = pen.fine;
+    if at <= 65536 {
+        let is_written = pen.out.write_all(&pen.page[..at]).is_ok();
+        pen.fine = pen.fine && is_written;
+    }
+    pen.at = 0;
+}
+
+pub fn byte<W: Write>(pen: &mut Pen<W>, b: u8) {
+    if pen.at >= 65536 {
+        put_out(pen);
+    }
+    let at = pen.at;
     if at < 65536 {
-        page[at] = b;
-        return Pen {
-            fd,
-            at: at + 1,
-            fine,
-        };
-    }
-    let is_written = io::write_all(fd, page);
-    page[0] = b;
-    Pen {
-        fd,
-        at: 1,
-        fine: fine && is_written,
+        pen.page[at] = b;
+        pen.at = at + 1;
     }
 }
 
-pub fn text(page: &mut [u8; 65536], pen: Pen, s: &[u8]) -> Pen {
-    let mut pen = pen;
-    let mut i = 0;
-    while i < s.len() {
-        pen = byte(page, pen, s[i]);
-        i += 1;
+pub fn text<W: Write>(pen: &mut Pen<W>, s: &[u8]) {
+    for b in s {
+        byte(pen, *b);
     }
-    pen
 }
 
-pub fn number(page: &mut [u8; 65536], pen: Pen, n: usize) -> Pen {
-    let mut digits = [0u8; 20];
-    let k = io::decimal(n as u64, &mut digits);
-    text(page, pen, &digits[..k])
+pub fn number<W: Write>(pen: &mut Pen<W>, n: usize) {
+    let mut digits = Buffer::new();
+    text(pen, digits.format(n).as_bytes());
 }
 
 // The number a - b.
-pub fn difference(page: &mut [u8; 65536], pen: Pen, a: usize, b: usize) -> Pen {
+pub fn difference<W: Write>(pen: &mut Pen<W>, a: usize, b: usize) {
     if b <= a {
-        return number(page, pen, a - b);
+        number(pen, a - b);
+    } else {
+        byte(pen, b'-');
+        number(pen, b - a);
     }
-    let pen = byte(page, pen, b'-');
-    number(page, pen, b - a)
 }
 
 // The number n / 1,000.
-pub fn thousandths(page: &mut [u8; 65536], pen: Pen, n: usize) -> Pen {
-    let pen = number(page, pen, n / 1000);
-    let pen = byte(page, pen, b'.');
-    let pen = number(page, pen, n / 100 % 10);
-    let pen = number(page, pen, n / 10 % 10);
-    number(page, pen, n % 10)
-}
-
-// The first bytes of the page, as many as are filled.
-fn put_out(fd: i32, page: &[u8], at: usize) -> bool {
-    if at <= page.len() {
-        return io::write_all(fd, &page[..at]);
-    }
-    false
+pub fn thousandths<W: Write>(pen: &mut Pen<W>, n: usize) {
+    number(pen, n / 1000);
+    byte(pen, b'.');
+    number(pen, n / 100 % 10);
+    number(pen, n / 10 % 10);
+    number(pen, n % 10);
 }
 
 // Writes what the page still holds, and answers whether all that was put on it went out.
-pub fn finish(page: &[u8; 65536], pen: Pen) -> bool {
-    let fine = pen.fine;
-    let is_written = put_out(pen.fd, page, pen.at);
-    fine && is_written
+pub fn finish<W: Write + Drop>(pen: Pen<W>) -> bool {
+    let mut pen = pen;
+    put_out(&mut pen);
+    pen.fine
 }
 
 // One more; the largest number stays.
 pub fn one_more(n: usize) -> usize {
-    if n < 18446744073709551615 { n + 1 } else { n }
+    n.saturating_add(1)
 }
 
 pub fn wide(n: u32) -> usize

@@ -1,56 +1,41 @@
 // A picture of a sheet, in the figure's own coordinates with y upwards.
+#![tactic(auto)]
+
 use pages::Pen;
+use std::io::Write;
 
 // The place of a point, as `x y`.
-fn place(page: &mut [u8; 65536], pen: Pen, points: &[i32], p: u32) -> Pen {
-    let pen = pages::difference(page, pen, frames::x_of(points, p), 8192);
-    let pen = pages::byte(page, pen, b' ');
-    pages::difference(page, pen, frames::y_of(points, p), 8192)
+fn place<W: Write>(pen: &mut Pen<W>, points: &[i32], p: u32) {
+    pages::difference(pen, frames::x_of(points, p), 8192);
+    pages::byte(pen, b' ');
+    pages::difference(pen, frames::y_of(points, p), 8192);
 }
 
 // The four numbers of the frame, with what stands between them: its upper left corner, with y downwards, its width and its height.
-fn frame(
-    page: &mut [u8; 65536],
-    pen: Pen,
-    points: &[i32],
-    second: &[u8],
-    third: &[u8],
-    fourth: &[u8],
-) -> Pen {
-    let pen = pages::difference(page, pen, frames::left(points), frames::frame_zero(points));
-    let pen = pages::text(page, pen, second);
-    let pen = pages::difference(page, pen, 8192, frames::frame_top(points));
-    let pen = pages::text(page, pen, third);
-    let pen = pages::number(page, pen, frames::frame_width(points));
-    let pen = pages::text(page, pen, fourth);
-    pages::number(page, pen, frames::frame_height(points))
+fn frame<W: Write>(pen: &mut Pen<W>, points: &[i32], second: &[u8], third: &[u8], fourth: &[u8]) {
+    pages::difference(pen, frames::left(points), frames::frame_zero(points));
+    pages::text(pen, second);
+    pages::difference(pen, 8192, frames::frame_top(points));
+    pages::text(pen, third);
+    pages::number(pen, frames::frame_width(points));
+    pages::text(pen, fourth);
+    pages::number(pen, frames::frame_height(points));
 }
 
-fn size(page: &mut [u8; 65536], pen: Pen, points: &[i32]) -> Pen {
-    let pen = pages::text(page, pen, b"\" width=\"");
-    let pen = pages::number(page, pen, frames::dots_wide(points));
-    let pen = pages::text(page, pen, b"\" height=\"");
-    pages::number(page, pen, frames::dots_high(points))
+fn size<W: Write>(pen: &mut Pen<W>, points: &[i32]) {
+    pages::text(pen, b"\" width=\"");
+    pages::number(pen, frames::dots_wide(points));
+    pages::text(pen, b"\" height=\"");
+    pages::number(pen, frames::dots_high(points));
 }
 
-fn head(page: &mut [u8; 65536], pen: Pen, points: &[i32]) -> Pen {
-    let pen = pages::text(
-        page,
-        pen,
-        b"<svg xmlns=\"http://www.w3.org/2000/svg\" viewBox=\"",
-    );
-    let pen = frame(page, pen, points, b" ", b" ", b" ");
-    let pen = size(page, pen, points);
-    let pen = pages::text(page, pen, b"\">\n<rect x=\"");
-    let pen = frame(
-        page,
-        pen,
-        points,
-        b"\" y=\"",
-        b"\" width=\"",
-        b"\" height=\"",
-    );
-    pages::text(page, pen, b"\" fill=\"white\"/>\n")
+fn head<W: Write>(pen: &mut Pen<W>, points: &[i32]) {
+    pages::text(pen, b"<svg xmlns=\"http://www.w3.org/2000/svg\" viewBox=\"");
+    frame(pen, points, b" ", b" ", b" ");
+    size(pen, points);
+    pages::text(pen, b"\">\n<rect x=\"");
+    frame(pen, points, b"\" y=\"", b"\" width=\"", b"\" height=\"");
+    pages::text(pen, b"\" fill=\"white\"/>\n");
 }
 
 // Corner j of triangle k, and end j of pair k.
@@ -72,63 +57,55 @@ fn end_of(pairs: &[u32], k: usize, j: usize) -> u32 {
     0
 }
 
-fn triangle(page: &mut [u8; 65536], pen: Pen, points: &[i32], list: &[u32], k: usize) -> Pen {
-    let pen = pages::text(page, pen, b"<path d=\"M");
-    let pen = place(page, pen, points, corner(list, k, 0));
-    let pen = pages::byte(page, pen, b' ');
-    let pen = place(page, pen, points, corner(list, k, 1));
-    let pen = pages::byte(page, pen, b' ');
-    let pen = place(page, pen, points, corner(list, k, 2));
-    pages::text(page, pen, b"Z\"/>\n")
+fn triangle<W: Write>(pen: &mut Pen<W>, points: &[i32], list: &[u32], k: usize) {
+    pages::text(pen, b"<path d=\"M");
+    place(pen, points, corner(list, k, 0));
+    pages::byte(pen, b' ');
+    place(pen, points, corner(list, k, 1));
+    pages::byte(pen, b' ');
+    place(pen, points, corner(list, k, 2));
+    pages::text(pen, b"Z\"/>\n");
 }
 
-fn line(page: &mut [u8; 65536], pen: Pen, points: &[i32], pairs: &[u32], k: usize) -> Pen {
-    let pen = pages::text(page, pen, b"<path d=\"M");
-    let pen = place(page, pen, points, end_of(pairs, k, 0));
-    let pen = pages::byte(page, pen, b' ');
-    let pen = place(page, pen, points, end_of(pairs, k, 1));
-    pages::text(page, pen, b"\"/>\n")
+fn line<W: Write>(pen: &mut Pen<W>, points: &[i32], pairs: &[u32], k: usize) {
+    pages::text(pen, b"<path d=\"M");
+    place(pen, points, end_of(pairs, k, 0));
+    pages::byte(pen, b' ');
+    place(pen, points, end_of(pairs, k, 1));
+    pages::text(pen, b"\"/>\n");
 }
 
-fn dot(page: &mut [u8; 65536], pen: Pen, points: &[i32], p: u32, radius: usize) -> Pen {
-    let pen = pages::text(page, pen, b"<circle cx=\"");
-    let pen = pages::difference(page, pen, frames::x_of(points, p), 8192);
-    let pen = pages::text(page, pen, b"\" cy=\"");
-    let pen = pages::difference(page, pen, frames::y_of(points, p), 8192);
-    let pen = pages::text(page, pen, b"\" r=\"");
-    let pen = pages::thousandths(page, pen, radius);
-    pages::text(page, pen, b"\"/>\n")
+fn dot<W: Write>(pen: &mut Pen<W>, points: &[i32], p: u32, radius: usize) {
+    pages::text(pen, b"<circle cx=\"");
+    pages::difference(pen, frames::x_of(points, p), 8192);
+    pages::text(pen, b"\" cy=\"");
+    pages::difference(pen, frames::y_of(points, p), 8192);
+    pages::text(pen, b"\" r=\"");
+    pages::thousandths(pen, radius);
+    pages::text(pen, b"\"/>\n");
 }
 
 // The number of a point, with y downwards, so that the digits stand upright.
-fn label(page: &mut [u8; 65536], pen: Pen, points: &[i32], p: u32) -> Pen {
-    let pen = pages::text(page, pen, b"<text x=\"");
-    let pen = pages::difference(page, pen, frames::x_of(points, p), 8192);
-    let pen = pages::text(page, pen, b"\" y=\"");
-    let pen = pages::difference(page, pen, 8192, frames::y_of(points, p));
-    let pen = pages::text(page, pen, b"\">");
-    let pen = pages::number(page, pen, pages::wide(p));
-    pages::text(page, pen, b"</text>\n")
+fn label<W: Write>(pen: &mut Pen<W>, points: &[i32], p: u32) {
+    pages::text(pen, b"<text x=\"");
+    pages::difference(pen, frames::x_of(points, p), 8192);
+    pages::text(pen, b"\" y=\"");
+    pages::difference(pen, 8192, frames::y_of(points, p));
+    pages::text(pen, b"\">");
+    pages::number(pen, pages::wide(p));
+    pages::text(pen, b"</text>\n");
 }
 
-fn triangles(page: &mut [u8; 65536], pen: Pen, points: &[i32], list: &[u32]) -> Pen {
-    let mut pen = pen;
-    let mut k = 0;
-    while k < list.len() / 3 {
-        pen = triangle(page, pen, points, list, k);
-        k += 1;
+fn triangles<W: Write>(pen: &mut Pen<W>, points: &[i32], list: &[u32]) {
+    for k in 0..list.len() / 3 {
+        triangle(pen, points, list, k);
     }
-    pen
 }
 
-fn lines(page: &mut [u8; 65536], pen: Pen, points: &[i32], pairs: &[u32]) -> Pen {
-    let mut pen = pen;
-    let mut k = 0;
-    while k < pairs.len() / 2 {
-        pen = line(page, pen, points, pairs, k);
-        k += 1;
+fn lines<W: Write>(pen: &mut Pen<W>, points: &[i32], pairs: &[u32]) {
+    for k in 0..pairs.len() / 2 {
+        line(pen, points, pairs, k);
     }
-    pen
 }
 
 // How many points the list has; a sheet has at most 4,096.
@@ -137,76 +114,63 @@ fn count(points: &[i32]) -> u32 {
     if n < 4096 { n as u32 } else { 4096 }
 }
 
-fn dots_of(page: &mut [u8; 65536], pen: Pen, points: &[i32], radius: usize) -> Pen {
-    let mut pen = pen;
-    let n = count(points);
-    let mut p = 0;
-    while p < n {
-        pen = dot(page, pen, points, p, radius);
-        p += 1;
+fn dots_of<W: Write>(pen: &mut Pen<W>, points: &[i32], radius: usize) {
+    for p in 0..count(points) {
+        dot(pen, points, p, radius);
     }
-    pen
 }
 
-fn labels(page: &mut [u8; 65536], pen: Pen, points: &[i32]) -> Pen {
-    let mut pen = pen;
-    let n = count(points);
-    let mut p = 0;
-    while p < n {
-        pen = label(page, pen, points, p);
-        p += 1;
+fn labels<W: Write>(pen: &mut Pen<W>, points: &[i32]) {
+    for p in 0..count(points) {
+        label(pen, points, p);
     }
-    pen
 }
 
 // The group of the triangles, thin, and that of the demanded lines, heavy.
-fn strokes(page: &mut [u8; 65536], pen: Pen, points: &[i32], pairs: &[u32], list: &[u32]) -> Pen {
+fn strokes<W: Write>(pen: &mut Pen<W>, points: &[i32], pairs: &[u32], list: &[u32]) {
     let unit = frames::letter(points);
-    let pen = pages::text(page, pen, b"<g stroke=\"#777\" stroke-width=\"");
-    let pen = pages::thousandths(page, pen, unit / 24);
-    let pen = pages::text(page, pen, b"\">\n");
-    let pen = triangles(page, pen, points, list);
-    let pen = pages::text(page, pen, b"</g>\n<g stroke=\"black\" stroke-width=\"");
-    let pen = pages::thousandths(page, pen, unit / 6);
-    let pen = pages::text(page, pen, b"\">\n");
-    let pen = lines(page, pen, points, pairs);
-    pages::text(page, pen, b"</g>\n")
+    pages::text(pen, b"<g stroke=\"#777\" stroke-width=\"");
+    pages::thousandths(pen, unit / 24);
+    pages::text(pen, b"\">\n");
+    triangles(pen, points, list);
+    pages::text(pen, b"</g>\n<g stroke=\"black\" stroke-width=\"");
+    pages::thousandths(pen, unit / 6);
+    pages::text(pen, b"\">\n");
+    lines(pen, points, pairs);
+    pages::text(pen, b"</g>\n");
 }
 
 // The group of the points, and that of their numbers, a little to the right and above, each with a rim that keeps the lines off it.
-fn marks(page: &mut [u8; 65536], pen: Pen, points: &[i32]) -> Pen {
+fn marks<W: Write>(pen: &mut Pen<W>, points: &[i32]) {
     let unit = frames::letter(points);
-    let pen = pages::text(page, pen, b"<g fill=\"black\">\n");
-    let pen = dots_of(page, pen, points, unit / 6);
-    let pen = pages::text(
-        page,
+    pages::text(pen, b"<g fill=\"black\">\n");
+    dots_of(pen, points, unit / 6);
+    pages::text(
         pen,
         b"</g>\n</g>\n<g font-family=\"sans-serif\" font-size=\"",
     );
-    let pen = pages::thousandths(page, pen, unit);
-    let pen = pages::text(
-        page,
+    pages::thousandths(pen, unit);
+    pages::text(
         pen,
         b"\" fill=\"#05a\" stroke=\"white\" paint-order=\"stroke\" stroke-width=\"",
     );
-    let pen = pages::thousandths(page, pen, unit / 6);
-    let pen = pages::text(page, pen, b"\" transform=\"translate(");
-    let pen = pages::thousandths(page, pen, unit / 4);
-    let pen = pages::text(page, pen, b" -");
-    let pen = pages::thousandths(page, pen, unit / 4);
-    let pen = pages::text(page, pen, b")\">\n");
-    let pen = labels(page, pen, points);
-    pages::text(page, pen, b"</g>\n")
+    pages::thousandths(pen, unit / 6);
+    pages::text(pen, b"\" transform=\"translate(");
+    pages::thousandths(pen, unit / 4);
+    pages::text(pen, b" -");
+    pages::thousandths(pen, unit / 4);
+    pages::text(pen, b")\">\n");
+    labels(pen, points);
+    pages::text(pen, b"</g>\n");
 }
 
-pub fn draw(page: &mut [u8; 65536], pen: Pen, points: &[i32], pairs: &[u32], list: &[u32]) -> Pen {
-    let pen = head(page, pen, points);
-    let pen = pages::text(
-        page,
+pub fn draw<W: Write>(pen: &mut Pen<W>, points: &[i32], pairs: &[u32], list: &[u32]) {
+    head(pen, points);
+    pages::text(
         pen,
         b"<g transform=\"scale(1 -1)\" fill=\"none\" stroke-linejoin=\"round\" stroke-linecap=\"round\">\n",
     );
-    let pen = strokes(page, pen, points, pairs, list);
-    let pen = marks(page, pen, points);
-    pages::text(page, pen, b"</svg>\n")
+    strokes(pen, points, pairs, list);
+    marks(pen, points);
+    pages::text(pen, b"</svg>\n");
 }

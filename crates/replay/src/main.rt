@@ -1,10 +1,17 @@
 // Goes through the oracle's answers: figures, and for each what the original and the second implementation of the table answered. The cutter
 // is asked the same, and its answer, its list, what it leaves in the lent lists and the checker's verdict are compared. `oracle/replay` makes
 // the data, and says in oracle/src/replay.rs how.
+#![tactic(auto)]
+
 mod comparing;
 mod reading;
 
-use libc::STDERR_FILENO;
+use requests::reading::Reading;
+use std::env::Env;
+use std::fs::File;
+use std::io::{Error, ErrorKind, Read};
+use std::process::ExitCode;
+use std::{fs, io};
 use texts::{Progress, Step, Word};
 
 fn is_end(text: &[u8], at: usize) -> bool {
@@ -23,61 +30,81 @@ fn is_end(text: &[u8], at: usize) -> bool {
 }
 
 // The cases, one after the other. The answer is whether the text has as many as it says, and nothing more.
-fn cases(text: &[u8], from: usize, count: usize, tally: &mut [usize]) -> bool {
+fn cases(
+    rt: &impl Print,
+    text: &[u8],
+    from: usize,
+    count: usize,
+    tally: &mut [usize],
+) -> io::Result<bool> {
     let mut at = from;
-    let mut i = 0;
-    while i < count {
-        let p = reading::case_at(text, at, i, tally);
+    for i in 0..count {
+        let p = reading::case_at(rt, text, at, i, tally)?;
         match p {
             Progress::Done(next) => {
                 at = next;
             }
             Progress::Fault(_) => {
-                return false;
+                return Ok(false);
             }
         }
-        i += 1;
     }
-    is_end(text, at)
+    Ok(is_end(text, at))
 }
 
-fn counted(text: &[u8], tally: &mut [usize]) -> bool {
+fn counted(rt: &impl Print, text: &[u8], tally: &mut [usize]) -> io::Result<bool> {
     let first = texts::take_number(text, 0, false);
     match first {
         Step::Taken {
             minus: _,
             size,
             next,
-        } => cases(text, next, size as usize, tally),
-        Step::Stop(_) => false,
+        } => cases(rt, text, next, size as usize, tally),
+        Step::Stop(_) => Ok(false),
     }
 }
 
-fn of_text(text: &[u8]) {
+fn of_text(rt: &impl Print, text: &[u8]) -> io::Result<()> {
     let mut tally = [0usize; 13];
-    let is_whole = counted(text, &mut tally);
-    findings::telling::summary(&tally, is_whole);
+    let is_whole = counted(rt, text, &mut tally)?;
+    findings::telling::summary(rt, &tally, is_whole)
 }
 
 // The list has more room than the data need: where they fill it, their end is not seen, and they are not taken.
-fn from(fd: i32) {
+fn from(rt: &(impl Print + Eprint), input: &mut impl Read) -> io::Result<ExitCode> {
     let mut text = [0u8; 262144];
-    let n = io::read_full(fd, &mut text);
-    if n < 262144 {
-        of_text(&text[..n]);
-    } else {
-        io::write_all(STDERR_FILENO, b"replay: the data are too long\n");
+    match requests::reading::read_text(input, &mut text) {
+        Reading::Text(length) => {
+            let end = reading::least(length, text.len());
+            of_text(rt, &text[..end])?;
+            Ok(ExitCode::SUCCESS)
+        }
+        Reading::TooLong => {
+            rt.eprintln("replay: the data are too long")?;
+            Ok(ExitCode::FAILURE)
+        }
+        Reading::Failed(why) => Err(why),
     }
 }
 
-fn main() {
-    let mut path = io::buffer();
-    let n = os::arg(1, &mut path);
-    let fd = os::open_read(&path[..n]);
-    if fd < 0 {
-        os::fail(&path[..n]);
-        return;
+fn opened(rt: HostRuntime, path: &[u8]) -> io::Result<File> {
+    match str::from_utf8(path) {
+        Ok(name) => fs::open(&rt, name),
+        Err(_) => Err(Error::from(ErrorKind::InvalidFilename)),
     }
-    from(fd);
-    libc::close(fd);
+}
+
+fn main(rt: HostRuntime) -> io::Result<ExitCode> {
+    let mut path = [0u8; 4096];
+    let n = rt.arg(1, &mut path).unwrap_or(0);
+    match opened(rt, &path[..n]) {
+        Ok(file) => {
+            let mut file = file;
+            from(&rt, &mut file)
+        }
+        Err(why) => {
+            requests::failures::fail(rt.stderr(), &path[..n], &why);
+            Ok(ExitCode::FAILURE)
+        }
+    }
 }

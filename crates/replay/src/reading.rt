@@ -5,9 +5,10 @@ ghost use Rattle.std.specs.Prelude.{◌≤◌};
 
 use crate::comparing;
 use findings::{Finding, MARK, entry, telling};
+use std::io;
 use texts::{Answer, Progress};
 
-fn least(a: usize, b: usize) -> usize
+pub fn least(a: usize, b: usize) -> usize
     ensures { result ≤ b }
 {
     if a < b { a } else { b }
@@ -127,7 +128,13 @@ fn finding(head: &[u32], points: &[i32], pairs: &[u32], expected: &[u32]) -> Fin
 }
 
 // The place after the case, or a fault of the text.
-pub fn case_at(text: &[u8], from: usize, case: usize, tally: &mut [usize]) -> Progress {
+pub fn case_at(
+    rt: &impl Print,
+    text: &[u8],
+    from: usize,
+    case: usize,
+    tally: &mut [usize],
+) -> io::Result<Progress> {
     let mut head = [0u32; 5];
     let mut points = [0i32; 64];
     let mut pairs = [0u32; 512];
@@ -143,9 +150,9 @@ pub fn case_at(text: &[u8], from: usize, case: usize, tally: &mut [usize]) -> Pr
     match p {
         Progress::Done(next) => {
             let found = finding(&head, &points, &pairs, &expected);
-            telling::found(tally, case, kind_of(entry(&head, 4), &expected), found);
-            Progress::Done(next)
+            telling::found(rt, tally, case, kind_of(entry(&head, 4), &expected), found)?;
+            Ok(Progress::Done(next))
         }
-        Progress::Fault(a) => Progress::Fault(a),
+        Progress::Fault(a) => Ok(Progress::Fault(a)),
     }
 }

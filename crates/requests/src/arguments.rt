@@ -1,4 +1,5 @@
 // What the arguments ask for.
+use std::env::{Env, FillError};
 
 // Which of its two forms the answer is to have and which argument names the file, 0 where none does; or what the program does instead: it
 // says how it is used, or which argument it does not take.
@@ -21,19 +22,7 @@ enum Kind {
 }
 
 fn is_same(a: &[u8], b: &[u8]) -> bool {
-    if a.len() != b.len() {
-        return false;
-    }
-    let mut i = 0;
-    while i < a.len() {
-        if i < b.len() {
-            if a[i] != b[i] {
-                return false;
-            }
-        }
-        i += 1;
-    }
-    true
+    a == b
 }
 
 fn starts_with_dash(word: &[u8]) -> bool {
@@ -56,39 +45,41 @@ fn kind_of(word: &[u8]) -> Kind {
     Kind::Name
 }
 
-// An argument that is too long for a path is taken for a name, which then cannot be opened.
-fn kind_at(i: usize) -> Kind {
-    let mut word = io::buffer();
-    let n = os::arg(i, &mut word);
-    kind_of(&word[..n])
+// Argument i, if there are so many. One that is too long for a path is taken for a name, which then cannot be opened.
+fn kind_at(rt: &impl Env, i: usize) -> Option<Kind> {
+    let mut word = [0u8; 4096];
+    match rt.arg(i, &mut word) {
+        Ok(n) => Some(kind_of(&word[..n])),
+        Err(FillError::TooLong) => Some(Kind::Name),
+        Err(FillError::NotPresent) => None,
+    }
 }
 
 // The arguments from the first to the last, in any order; the first that is not taken is the answer.
-pub fn asked() -> Wish {
-    let count = os::arg_count();
+pub fn asked(rt: &impl Env) -> Wish {
     let mut is_picture = false;
     let mut name = 0;
-    let mut i = 1;
-    while i < count {
-        let k = kind_at(i);
-        match k {
-            Kind::Svg => {
+    for i in 1..usize::MAX {
+        match kind_at(rt, i) {
+            None => {
+                break;
+            }
+            Some(Kind::Svg) => {
                 is_picture = true;
             }
-            Kind::Help => {
+            Some(Kind::Help) => {
                 return Wish::Help;
             }
-            Kind::Option => {
+            Some(Kind::Option) => {
                 return Wish::Unknown(i);
             }
-            Kind::Name => {
+            Some(Kind::Name) => {
                 if name != 0 {
                     return Wish::Second(i);
                 }
                 name = i;
             }
         }
-        i += 1;
     }
     if is_picture {
         Wish::Picture(name)

@@ -1,4 +1,7 @@
-// What is asked of the program: its arguments, what it says of them, and the text that it is given.
+// What is asked of the program: its arguments, what it says of them, the text that it is given, and what it says where the system refuses.
+#![tactic(auto)]
+
 pub mod arguments;
+pub mod failures;
 pub mod help;
 pub mod reading;

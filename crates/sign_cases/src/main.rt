@@ -1,11 +1,15 @@
 // Runs the cases of document 01 for the signs, the intake, the parts and the filter, and prints a line for each.
+#![tactic(auto)]
+
 mod print;
 mod signs_cases;
 
-fn main() {
-    signs_cases::whole();
-    signs_cases::intake();
-    signs_cases::points();
-    signs_cases::parts();
-    signs_cases::filter();
+use std::io;
+
+fn main(rt: HostRuntime) -> io::Result<()> {
+    signs_cases::whole(&rt)?;
+    signs_cases::intake(&rt)?;
+    signs_cases::points(&rt)?;
+    signs_cases::parts(&rt)?;
+    signs_cases::filter(&rt)
 }

@@ -1,52 +1,45 @@
 // Numbers and answers on standard output.
-use libc::STDOUT_FILENO;
 use signs::Sign;
+use std::io;
 
-pub fn text(s: &[u8]) {
-    io::write_all(STDOUT_FILENO, s);
+pub fn text(rt: &impl Print, s: &[u8]) -> io::Result<()> {
+    rt.write_all(s)
 }
 
-pub fn line_end() {
-    text(b"\n");
+pub fn line_end(rt: &impl Print) -> io::Result<()> {
+    text(rt, b"\n")
 }
 
-pub fn unsigned(n: u64) {
-    io::print_decimal(STDOUT_FILENO, n);
+pub fn unsigned(rt: &impl Print, n: u64) -> io::Result<()> {
+    rt.print(n)
 }
 
-pub fn count(n: usize) {
-    unsigned(n as u64);
+pub fn count(rt: &impl Print, n: usize) -> io::Result<()> {
+    unsigned(rt, n as u64)
 }
 
-pub fn integer(n: i64) {
-    if n < 0 {
-        text(b"-");
-        // one less than the size, which fits even for the least number
-        let less = -1 - n;
-        unsigned((less as u64) + 1);
-    } else {
-        unsigned(n as u64);
-    }
+pub fn integer(rt: &impl Print, n: i64) -> io::Result<()> {
+    rt.print(n)
 }
 
-pub fn small(n: i32) {
-    integer(n as i64);
+pub fn small(rt: &impl Print, n: i32) -> io::Result<()> {
+    integer(rt, n as i64)
 }
 
 // A float by its bits; a NaN has no bits of its own.
-pub fn float(v: f64) {
-    if v == v {
-        text(b"0x");
-        io::print_hex(STDOUT_FILENO, f64::to_bits(v), 16);
+pub fn float(rt: &impl Print, v: f64) -> io::Result<()> {
+    if v.is_nan() {
+        text(rt, b"a NaN")
     } else {
-        text(b"a NaN");
+        let bits = v.to_bits();
+        print!(rt; "0x{bits:016x}")
     }
 }
 
-pub fn sign(s: Sign) {
+pub fn sign(rt: &impl Print, s: Sign) -> io::Result<()> {
     match s {
-        Sign::Neg => text(b"negative"),
-        Sign::Zero => text(b"zero"),
-        Sign::Pos => text(b"positive"),
+        Sign::Neg => text(rt, b"negative"),
+        Sign::Zero => text(rt, b"zero"),
+        Sign::Pos => text(rt, b"positive"),
     }
 }

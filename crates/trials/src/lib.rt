@@ -1,25 +1,47 @@
 // Runs a case of the checker and tells the verdict.
+#![tactic(auto)]
 
-pub fn verdict(points: &[i32], pairs: &[u32], list: &[u32], work: &mut [u32]) {
+use std::io;
+
+pub fn verdict(
+    rt: &impl Print,
+    points: &[i32],
+    pairs: &[u32],
+    list: &[u32],
+    work: &mut [u32],
+) -> io::Result<()> {
     let answer = checker::check(points, pairs, list, work);
-    reports::verdict(answer);
+    reports::verdict(rt, answer)
 }
 
-pub fn judged(name: &[u8], points: &[i32], pairs: &[u32], list: &[u32], work: &mut [u32]) {
-    reports::text(name);
-    reports::text(b": ");
-    verdict(points, pairs, list, work);
-    reports::text(b"\n");
+pub fn judged(
+    rt: &impl Print,
+    name: &[u8],
+    points: &[i32],
+    pairs: &[u32],
+    list: &[u32],
+    work: &mut [u32],
+) -> io::Result<()> {
+    reports::text(rt, name)?;
+    reports::text(rt, b": ")?;
+    verdict(rt, points, pairs, list, work)?;
+    reports::text(rt, b"\n")
 }
 
 // A case of at most ten points, with room for them.
-pub fn small(name: &[u8], points: &[i32], pairs: &[u32], list: &[u32]) {
+pub fn small(
+    rt: &impl Print,
+    name: &[u8],
+    points: &[i32],
+    pairs: &[u32],
+    list: &[u32],
+) -> io::Result<()> {
     let mut work = [7u32; 640];
-    judged(name, points, pairs, list, &mut work);
+    judged(rt, name, points, pairs, list, &mut work)
 }
 
 // The same without pairs.
-pub fn bare(name: &[u8], points: &[i32], list: &[u32]) {
+pub fn bare(rt: &impl Print, name: &[u8], points: &[i32], list: &[u32]) -> io::Result<()> {
     let none = [0u32; 0];
-    small(name, points, &none, list);
+    small(rt, name, points, &none, list)
 }
