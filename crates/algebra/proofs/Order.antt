@@ -1,14 +1,13 @@
 -- The order of ℤ against 0, and what sums, products and squares do to it. Assumes nothing.
-use mathlib.Core.Path.{◌≡◌, refl, sym, ap, ap₂, ◌∙◌, subst}
-use mathlib.Core.Bool.{Bool, true, false, not}
-use Prim.Native.Nat.{ℕ, zero, suc, ◌+◌, ◌*◌, ◌-◌, ◌≤◌, ◌<◌, zero-le, suc-le-suc}
-use native.Mathlib.Nat.{mul-pos, le_refl, mul_comm}
+use mathlib.Core.Path.{◌≡◌, refl, sym, ap, ◌∙◌, subst}
+use Prim.Native.Nat.{ℕ, zero, suc, ◌+◌, ◌*◌, ◌<◌, zero-le, suc-le-suc}
+use native.Mathlib.Nat.{mul-pos}
 use native.Mathlib.Omega.{arith}
-use lib.Dec.{T, ltb, leb, ltb→lt, lt→ltb, leb→le, le→leb}
-use lib.IntN.{ℤ, pos, negsuc, ◌+ℤ◌, ◌*ℤ◌, ◌-ℤ◌, neg_ℤ, *ℤ-zero, zero-*ℤ, *ℤ_comm}
-use lib.Signed.{◌≤ℤ◌, ◌<ℤ◌, le_z, lt_z, ≤ℤ_refl, <ℤ_irrefl, clash_ℤ}
+use lib.Dec.{ltb→lt, lt→ltb, le→leb}
+use lib.IntN.{ℤ, pos, negsuc, ◌+ℤ◌, ◌*ℤ◌, neg_ℤ, *ℤ-zero}
+use lib.Signed.{◌≤ℤ◌, <ℤ_irrefl, clash_ℤ}
 use Rattle.algebra.specs.Order.{Pos, NonNeg}
-use Rattle.algebra.proofs.Laws.{*ℤ-neg, neg-*ℤ}
+use Rattle.algebra.proofs.Laws.{*ℤ-neg}
 
 pos_of : (n : ℕ) → 0 < n → Pos (pos n)
 pos_of n h = record { lt = lt→ltb 0 n h }

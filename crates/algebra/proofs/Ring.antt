@@ -7,12 +7,12 @@
 use mathlib.Core.Path.{◌≡◌, refl, sym, ap, ap₂, ◌∙◌, subst}
 use mathlib.Core.Bool.{Bool, true, false}
 use mathlib.Core.List.{List, [], ◌∷◌}
-use Prim.Native.Nat.{ℕ, zero, suc, ◌+◌, ◌*◌, ◌/◌, ◌%◌, ◌^◌, ◌≤◌, ◌<◌, max, compare, Ordering}
+use Prim.Native.Nat.{ℕ, zero, suc, ◌+◌, ◌/◌, ◌%◌, ◌^◌, ◌≤◌, ◌<◌, max, compare, Ordering}
 use native.Mathlib.Nat.{le_trans, le-max_left, le-max_right, lt_of_le_of_lt, add_comm}
 use native.Mathlib.Omega.{arith}
-use lib.Dec.{T, ltb, leb, eqb, compare_is_eq, ltb→lt, eqb→eq}
-use lib.IntN.{ℤ, pos, negsuc, ◌+ℤ◌, ◌*ℤ◌, ◌-ℤ◌, neg_ℤ, +ℤ_assoc, +ℤ_comm, +ℤ_idl, +ℤ_idr, +ℤ_invr, zero-*ℤ, *ℤ-zero, *ℤ_comm, neg_ℤ-+ℤ, neg_ℤ-neg_ℤ}
-use Rattle.algebra.proofs.Laws.{+ℤ-left-comm, +ℤ-swap, add-*ℤ, *ℤ-add, neg-*ℤ, *ℤ-neg, *ℤ-assoc, *ℤ-left-comm, *ℤ-swap, *ℤ-1, 1-*ℤ, eq_of_sub_zero}
+use lib.Dec.{T, ltb, leb, compare_is_eq, ltb→lt, eqb→eq}
+use lib.IntN.{ℤ, pos, negsuc, ◌+ℤ◌, ◌*ℤ◌, ◌-ℤ◌, neg_ℤ, +ℤ_assoc, +ℤ_idl, +ℤ_idr, zero-*ℤ, *ℤ-zero, *ℤ_comm, neg_ℤ-+ℤ}
+use Rattle.algebra.proofs.Laws.{+ℤ-left-comm, +ℤ-swap, add-*ℤ, *ℤ-add, neg-*ℤ, *ℤ-assoc, *ℤ-swap, *ℤ-1, 1-*ℤ, eq_of_sub_zero}
 
 infixl 6 ◌⊕◌ ◌⊖◌
 infixl 7 ◌⊗◌

@@ -1,4 +1,6 @@
 // Step 4 of document 01 in the lent working area: the apex of the triangle over the base of a part of the chain.
+#![tactic(auto)]
+
 ghost use Rattle.std.specs.Prelude.{◌≡◌, ◌+◌, ◌*◌, ◌<◌};
 ghost use Rattle.algebra.specs.Tests.{posb};
 ghost use Rattle.plane.specs.Determinants.{incircle};

@@ -1,5 +1,7 @@
 // Refusals 5 and 6 of document 01's table: whether points 0, 1 and 2 have no area, and the lowest point outside the base that they make.
 // The promises are over the definitions of crate tables: Data, Refusals, Answers.
+#![tactic(auto)]
+
 ghost use Rattle.std.specs.Prelude.{◌≡◌, ◌≤◌, ◌<◌};
 ghost use Rattle.segments.specs.Near.{Near};
 ghost use Rattle.tables.specs.Answers.{lowest};

@@ -1,5 +1,7 @@
 // Steps 1 to 3 of the building steps: points in, a Delaunay tiling out. Crate nets says in specs/Building what the steps make of a net,
 // and specs/Stages here how far they have come in the lent working area.
+#![tactic(auto)]
+
 ghost use Rattle.std.specs.Prelude.{◌≡◌, ℕ, suc, ◌+◌, ◌*◌, ◌≤◌, ◌<◌, length};
 ghost use Rattle.tables.specs.Data.{point_count};
 ghost use Rattle.tables.specs.Figures.{Figure};

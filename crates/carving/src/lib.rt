@@ -1,6 +1,8 @@
 // The recovery of a pair in the lent working area: the walk along its corridor and the filling of both sides of the cavity, put together;
 // the mark of the new edge; the room that a recovery stands on; and the new triangles as suspects. Crate chains says in specs/ what stands
 // where, and in specs/Recoveries what a recovery is.
+#![tactic(auto)]
+
 ghost use Rattle.std.specs.Prelude.{◌≡◌, ℕ, ◌+◌, ◌-◌, ◌*◌, ◌/◌, ◌≤◌, ◌<◌, length};
 ghost use Rattle.tables.specs.Data.{point_count, point};
 ghost use Rattle.tables.specs.Figures.{Figure};

@@ -1,1 +1,3 @@
+#![tactic(auto)]
+
 // The pure model of recovery: definitions (specs/) and their laws (proofs/), and no code.

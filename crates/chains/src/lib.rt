@@ -1,5 +1,6 @@
 // What the recovery of a pair writes in the lent working area: definitions (specs/), their laws (proofs/), and the answers of its parts, as
 // enums. There is no code here.
+#![tactic(auto)]
 
 // What the filling of one side of a cavity answers.
 #[derive(Drop)]

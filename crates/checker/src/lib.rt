@@ -1,4 +1,6 @@
 // The checker: any list, from anyone, is judged by the eight sheet rules. It is told nothing of who made the list.
+#![tactic(auto)]
+
 ghost use Rattle.std.specs.Prelude.{◌≡◌, ℕ, ◌*◌, ◌≤◌, length};
 ghost use Rattle.tables.specs.Answers.{ofVerdict};
 ghost use Rattle.tables.specs.Data.{point_count};

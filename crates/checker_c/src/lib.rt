@@ -1,4 +1,6 @@
 // The checker for programs in other languages, by numbers alone. The benchmark links it.
+#![tactic(auto)]
+
 ghost use Rattle.std.specs.Prelude.{◌≡◌, false, length};
 ghost use Rattle.tables.specs.Data.{point_count};
 ghost use Rattle.tables.specs.Refusals.{rows, short_work};

@@ -2,6 +2,8 @@
 // crate base_checks, rows 8 to 10 crate pair_rows. A row is asked only where those above it pass, which is what it may take for granted.
 // Rows 9 and 10 use the working area, which row 3 has found long enough, and it is cleared behind them, whatever the answer is. The
 // promises are over the definitions of crate tables: Data, Refusals, Answers, Verdicts.
+#![tactic(auto)]
+
 ghost use Rattle.std.specs.Prelude.{◌≡◌, false, ◌*◌, ◌%◌, ◌≤◌, length};
 ghost use Rattle.tables.specs.Answers.{ofChecked};
 ghost use Rattle.tables.specs.Data.{point_count};

@@ -2,6 +2,8 @@
 // crossed edge until b is met. Each triangle that is entered is written down as a crossed slot, its far corner in the chain, and the edge
 // that is not crossed is parked as a gap, for its triangle will be cut anew. Crate chains says in specs/ what stands where, and in
 // specs/Walks when the walk sticks.
+#![tactic(auto)]
+
 ghost use Rattle.std.specs.Prelude.{◌≡◌, ℕ, ◌+◌, ◌-◌, ◌*◌, ◌/◌, ◌≤◌, ◌<◌, length, set};
 ghost use Rattle.plane.specs.Halfedges.{nxt};
 ghost use Rattle.nets.specs.Layout.{Kept};

@@ -5,6 +5,8 @@
 // first tests are those that nearly always go one way. A point is seldom on the line of a segment, but may well be in its box: so
 // `in_segment_xy` asks for the orientation first. Boxes of two segments seldom overlap: so `crosses_xy` compares them first, and in y before
 // x, since the callers that go by rank try only segments whose ranges of x meet.
+#![tactic(auto)]
+
 ghost use Rattle.std.specs.Prelude.{◌≡◌, [], ◌∷◌, ◌<◌};
 ghost use Rattle.algebra.specs.Size.{Small};
 ghost use Rattle.plane.specs.Points.{at};

@@ -1,4 +1,6 @@
 // The public call: any lists and any lent room get a sheet of triangles or a numbered refusal.
+#![tactic(auto)]
+
 ghost use Rattle.std.specs.Prelude.{◌≡◌, ◌*◌, length};
 ghost use Rattle.tables.specs.Answers.{yes};
 ghost use Rattle.tables.specs.Data.{point_count};

@@ -1,4 +1,6 @@
 // The sheet rules that ask for an edge and its reverse: 3 and 7.
+#![tactic(auto)]
+
 ghost use Rattle.std.specs.Prelude.{◌≡◌, true, ◌||◌, ℕ, ◌+◌, ◌*◌, ◌<◌, ◌≤◌, length};
 ghost use Rattle.algebra.specs.Tests.{all_to, any_to};
 ghost use Rattle.plane.specs.Halfedges.{nxt};

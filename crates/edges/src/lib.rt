@@ -1,5 +1,7 @@
 // An index of the directed edges of a list of triples, in lent room: for each point the last edge that leaves it, and for each edge the
 // one before it that leaves the same point. An edge is found along the few that leave its first end.
+#![tactic(auto)]
+
 ghost use Rattle.std.specs.Prelude.{◌≡◌, ℕ, ◌+◌, ◌≤◌, ◌<◌, ◌%◌, length, get_or};
 ghost use Rattle.plane.specs.Halfedges.{nxt};
 ghost use Rattle.rooms.specs.Rest.{Rest};

@@ -1,5 +1,7 @@
 // The library for programs in other languages, by numbers alone: cut, check, and the signs of orientation and circle. c/dergulam.h declares these
 // functions and says what each number means.
+#![tactic(auto)]
+
 ghost use Rattle.std.specs.Prelude.{◌≡◌, length};
 ghost use Rattle.plane.specs.Points.{at};
 ghost use Rattle.signs.specs.Answers.{limit, orientAnswer, circleAnswer, wholeNumber};

@@ -2,6 +2,8 @@
 //
 // The filling calls itself for both sides of the triangle over the base, so a call is as deep as the tree of triangles is high: at most
 // as many calls as the chain has corners. So `fill` leaves all work but the calls to other functions, and its frame is small.
+#![tactic(auto)]
+
 ghost use Rattle.std.specs.Prelude.{◌≡◌, ◌+◌, ◌-◌, ◌*◌, ◌≤◌, ◌<◌};
 ghost use Rattle.tables.specs.Data.{point_count, point};
 ghost use Rattle.tables.specs.Figures.{Figure};

@@ -1,6 +1,8 @@
 // Step 3 by the coordinates of numbered points, which rule 7 asks for: whether an edge flips.
 //
 // Document 01, "Building steps", 3, says what the call answers. The definitions are those of crate tables.
+#![tactic(auto)]
+
 ghost use Rattle.std.specs.Prelude.{◌≡◌, cond, ◌&&◌, ◌<◌};
 ghost use Rattle.algebra.specs.Tests.{posb};
 ghost use Rattle.tables.specs.Data.{point_count, point};

@@ -1,5 +1,7 @@
 // Step 2 of the building steps: flipping from the suspects until none is left. Step 3, which edge flips, is crate wants; the stack of
 // suspects is crate suspects; the flip is crate steps.
+#![tactic(auto)]
+
 ghost use Rattle.std.specs.Prelude.{◌<◌};
 ghost use Rattle.tables.specs.Data.{point_count, point};
 ghost use Rattle.tables.specs.Figures.{Figure};

@@ -1,11 +1,11 @@
 -- The intake of one coordinate. Assumes nothing.
-use Rattle.std.proofs.Common.{◌≡◌, ℕ, zero, suc, ◌+◌, ◌-◌, ◌*◌, ◌/◌, ◌%◌, ◌^◌, ◌<◌, ◌≤◌, min, Bool, true, false, cond, not, ◌&&◌, ◌||◌, T, eqb, ltb, leb, ◌⊎◌, ℤ, pos, negsuc, neg_ℤ, nat_abs, sym, refl, ap, ◌∙◌, subst, ap₂, inl, inr, true≢false, zero-le, le_trans, le_of_eq, le_refl, lt_of_lt_of_le, lt_of_le_of_lt, add-zero, le_of_lt, lt_irrefl, mul-le-mul_right, zero-lt-suc, mul_assoc, mul_comm, mul-lt-mul_of_pos_right, mul-pos, one-mul, mul-zero, div-add-mod', zero-mul, mul-one, div-mul-le_self, le_of_mul-le-mul_right, arith, lit<, lit≤, le→leb, eqb→eq, ltb→lt, lt→ltb, nltb→le, ltb-false, ltb-true, le-ltb, lt-ltb, eq-eqb, ne_eqb}
-use native.Mathlib.Nat.{mul-mod_left, eq_of_mul-eq-mul_right}
+use Rattle.std.proofs.Common.{◌≡◌, ℕ, zero, suc, ◌+◌, ◌-◌, ◌*◌, ◌/◌, ◌%◌, ◌^◌, ◌<◌, ◌≤◌, min, Bool, true, false, cond, not, ◌&&◌, ◌||◌, T, eqb, ltb, ℤ, pos, negsuc, neg_ℤ, nat_abs, sym, refl, ap, ◌∙◌, subst, ap₂, true≢false, le_trans, le_of_eq, lt_of_lt_of_le, lt_of_le_of_lt, add-zero, mul_assoc, mul_comm, mul-lt-mul_of_pos_right, div-add-mod', zero-mul, mul-one, div-mul-le_self, le_of_mul-le-mul_right, arith, lit<, lit≤, le→leb, eqb→eq, lt→ltb, nltb→le, ltb-false, le-ltb, eq-eqb, ne_eqb}
+use native.Mathlib.Nat.{eq_of_mul-eq-mul_right}
 use mathlib.Core.Bool.{beq, false≢true}
 use lib.IntN.{pos-ne-negsuc}
 use lib.Signed.{mag}
-use lib.Ieee.{Float, nan, inf, fin, binary64, up, down, le, lt, eq, below, level, of_int, in_float, to_signed, round}
-use lib.Ieee.Fits.{up_pos, down_pos}
+use lib.Ieee.{Float, nan, inf, fin, binary64, up, down, le, lt, eq, level, of_int, in_float, to_signed, round}
+use lib.Ieee.Fits.{down_pos}
 use lib.Ieee.Back.{round_whole}
 use lib.Ieee.Scale.{finite}
 use Rattle.algebra.proofs.Size.{mag_abs}
@@ -13,7 +13,6 @@ use Rattle.floats.specs.Whole.{signed, Is}
 use Rattle.floats.proofs.Exact.{abs_signed, has→is, common}
 use Rattle.signs.specs.Answers.{limit}
 use Rattle.float_signs.specs.Intake.{intake_of}
-use Rattle.float_signs.specs.declared.Intake.{Intake}
 use Rattle.float_signs.specs.declared.Intake.TheVariants.{Whole, NotFinite, TooLarge, Fraction}
 
 -- limit.0 and -limit.0

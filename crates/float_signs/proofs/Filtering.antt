@@ -1,5 +1,5 @@
 -- What the filter's tests tell of its answer, and the float formulas on whole coordinates. Assumes nothing.
-use Rattle.std.proofs.Common.{◌≡◌, ℕ, zero, suc, ◌+◌, ◌*◌, ◌^◌, ◌≤◌, Bool, true, false, cond, ◌&&◌, ℤ, pos, negsuc, ◌-ℤ◌, ◌*ℤ◌, nat_abs, sym, refl, ap, ◌∙◌, le_trans, add-le-add, mul-le-mul_right, mul-le-mul_left, arith, lit≤}
+use Rattle.std.proofs.Common.{◌≡◌, ℕ, zero, suc, ◌+◌, ◌*◌, ◌^◌, ◌≤◌, true, false, ℤ, pos, negsuc, ◌-ℤ◌, ◌*ℤ◌, nat_abs, sym, refl, ap, ◌∙◌, le_trans, add-le-add, mul-le-mul_right, mul-le-mul_left, arith, lit≤}
 use lib.Ieee.{Float, fin, binary64, add, sub, mul, le, lt}
 use lib.Ieee.Scale.{finite}
 use Rattle.algebra.proofs.Size.{abs_sub}
@@ -12,7 +12,6 @@ use Rattle.floats.proofs.Half.{Low, normal, not_normal, finite_is, low_below, lo
 use Rattle.signs.specs.Signs.{sign_z, sign_f}
 use Rattle.float_signs.specs.Filter.{WholePoint, certified, decided, orient_filter, det_left, det_right, circle_f}
 use Rattle.float_signs.specs.declared.Vec2.{Vec2}
-use Rattle.float_signs.specs.declared.Filtered.{Filtered}
 use Rattle.float_signs.specs.declared.Filtered.TheVariants.{Sure, Unsure}
 use Rattle.signs.proofs.Signed.{sign_is}
 

@@ -1,11 +1,10 @@
 -- A float's odd mantissa and exponent, from its bit pattern. Assumes nothing.
-use Rattle.std.proofs.Common.{◌≡◌, ℕ, zero, suc, ◌+◌, ◌-◌, ◌*◌, ◌/◌, ◌%◌, ◌^◌, ◌<◌, ◌≤◌, Bool, true, false, cond, not, ◌&&◌, ◌||◌, T, eqb, ltb, leb, ◌⊎◌, ℤ, pos, negsuc, ◌-ℤ◌, neg_ℤ, nat_abs, sym, refl, ap, ◌∙◌, subst, ap₂, inl, inr, true≢false, zero-le, le_trans, le_of_eq, le_refl, lt_of_lt_of_le, lt_of_le_of_lt, le_of_lt, lt_irrefl, mod-lt, zero-lt-suc, mul_comm, pow-suc, mul-one, div-le_self, arith, lit<, lit≤, eqb→eq, ltb→lt, nltb→le, pow_pos, pow_mono, le-ltb, lt-ltb, eq-eqb, ne_eqb, eqb-true, le-leb}
+use Rattle.std.proofs.Common.{◌≡◌, ℕ, zero, suc, ◌+◌, ◌-◌, ◌*◌, ◌/◌, ◌%◌, ◌^◌, ◌<◌, ◌≤◌, Bool, true, false, cond, not, ◌&&◌, T, eqb, ltb, leb, ℤ, pos, negsuc, ◌-ℤ◌, sym, refl, ap, ◌∙◌, subst, inl, inr, true≢false, le_trans, le_of_eq, lt_of_lt_of_le, lt_irrefl, mod-lt, zero-lt-suc, mul_comm, pow-suc, arith, lit≤, eqb→eq, ltb→lt, nltb→le, pow_pos, pow_mono, lt-ltb, eqb-true, le-leb}
 use native.Mathlib.Decide.{le_ind}
 use mathlib.Core.Bool.{false≢true}
 use lib.IntN.{sub_ℕ}
 use lib.Signed.{mag}
 use lib.Pow.{field}
-use lib.Bits.{bit_and, bit_or, and_mask, or_shifted_r}
 use lib.Count.{count_trailing_zeros, under, trailing_le}
 use lib.Ieee.Fits.{and_l}
 use lib.Ieee.{Float, nan, inf, fin, binary64, up, down, minus, odd, lt, eq, fits, is_nan, to_bits, of_bits, of_fields}

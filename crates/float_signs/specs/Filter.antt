@@ -1,6 +1,6 @@
 -- The float formulas of the original, operation by operation in the library's account of IEEE 754, and what they are held to on whole
 -- coordinates. Definitions, and what the error bound computes to.
-use Rattle.std.specs.Prelude.{◌≡◌, ℕ, zero, suc, ◌≤◌, Bool, true, false, cond, ◌&&◌, ℤ, pos, negsuc, unsigned_abs, refl, Float}
+use Rattle.std.specs.Prelude.{◌≡◌, ℕ, zero, suc, ◌≤◌, false, cond, ◌&&◌, ℤ, pos, negsuc, unsigned_abs, refl, Float}
 use Rattle.std.specs.Float.{fin, binary64}
 use Rattle.std.specs.Float.Ieee.{add, sub, mul, le, lt}
 use Rattle.std.specs.Float.Ieee.Scale.{finite}

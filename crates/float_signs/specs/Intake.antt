@@ -1,6 +1,6 @@
 -- The intake of float coordinates, tested in document 01's order: not finite; magnitude above the limit; not whole; else the whole
 -- number. A finite float fin s m e is (m * up e) / down e in size. Definitions only.
-use Rattle.std.specs.Prelude.{ℕ, ◌*◌, ◌/◌, ◌%◌, cond, ℤ, pos, ◌==◌, nat_lt, Float}
+use Rattle.std.specs.Prelude.{◌*◌, ◌/◌, ◌%◌, cond, ℤ, pos, ◌==◌, nat_lt, Float}
 use Rattle.std.specs.Float.{nan, inf, fin}
 use Rattle.std.specs.Float.Ieee.{up, down}
 use Rattle.floats.specs.Whole.{signed}

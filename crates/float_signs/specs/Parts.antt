@@ -1,6 +1,6 @@
 -- A float's odd mantissa and exponent: its number is m · 2^e. The library's account of floats writes each finite float fin s m e with an
 -- odd m, or with m = 0 and e = 0, so these are the parts; `Reduced` says so again of the answer. Definitions, and document 01's examples.
-use Rattle.std.specs.Prelude.{◌≡◌, ℕ, ◌%◌, Bool, true, false, ◌⊎◌, ℤ, pos, negsuc, unsigned_abs, refl, Float}
+use Rattle.std.specs.Prelude.{◌≡◌, ◌%◌, Bool, true, false, ◌⊎◌, ℤ, pos, negsuc, unsigned_abs, refl, Float}
 use Rattle.std.specs.Float.{nan, inf, fin, binary64}
 use Rattle.std.specs.Float.Ieee.{of_bits}
 use Rattle.floats.specs.Whole.{signed}

@@ -2,6 +2,8 @@
 //
 // The original is filtered.rs; document 01, section "Float points and the float tier", says what each call answers. Every promise is over
 // definitions of specs/: Intake, Parts, Filter. The error bound is a constant of `Sign`, in crate signs.
+#![tactic(auto)]
+
 ghost use Rattle.std.specs.Prelude.{◌≡◌, ℕ, ◌<◌, ℤ};
 ghost use Rattle.std.specs.Float.Ieee.{odd};
 ghost use Rattle.std.specs.Float.Ieee.Scale.{finite};

@@ -2,14 +2,14 @@
 use mathlib.Core.Path.{◌≡◌, refl, sym, ap, ap₂, ◌∙◌, subst}
 use mathlib.Core.Logic.{◌⊎◌, inl, inr}
 use Prim.Native.Nat.{ℕ, zero, suc, ◌+◌, ◌-◌, ◌*◌, ◌^◌, ◌≤◌, ◌<◌, zero-le}
-use native.Mathlib.Nat.{zero-mul, mul-zero, mul-one, one-mul, mul-pos, zero-lt-suc, lt_irrefl, le_refl, le_trans, le_of_eq, le_of_lt, lt_of_lt_of_le, lt_of_le_of_lt, not-le_of_lt, mul_assoc, mul_comm, mul_left_comm, mul_right_comm, mul-mul-mul_comm, add-mul, mul-sub, mul-lt-mul_of_pos_right, mul-le-mul_right, mul-le-mul, add-le-add, sub_self, le_of_mul-le-mul_right, add_comm, add-zero, zero-add}
+use native.Mathlib.Nat.{zero-mul, mul-zero, mul-one, mul-pos, zero-lt-suc, le_of_lt, mul_assoc, mul_comm, mul-mul-mul_comm, add-mul, mul-sub, mul-lt-mul_of_pos_right, mul-le-mul_right, add-zero, zero-add}
 use native.Mathlib.Omega.{arith}
-use mathlib.Core.Bool.{Bool, true, false, not, ◌&&◌, ◌||◌, cond, beq, true≢false, false≢true}
+use mathlib.Core.Bool.{Bool, true, false, not}
 use lib.IntN.{ℤ, pos, negsuc, neg_ℤ, nat_abs, sub_ℕ, ◌+ℤ◌, ◌-ℤ◌, ◌*ℤ◌, neg_ℤ-neg_ℤ}
 use lib.Signed.{lt_z}
-use lib.Dec.{T, ltb, leb, eqb, ltb→lt, nltb→le, leb-suc-suc}
-use lib.Ieee.{Float, nan, inf, fin, Format, binary64, up, down, lt, neg, sum, add, sub, mul, round, unlike, below}
-use lib.Ieee.Fits.{up_pos, down_pos}
+use lib.Dec.{T, ltb, ltb→lt, nltb→le, leb-suc-suc}
+use lib.Ieee.{Float, nan, inf, fin, binary64, up, down, lt, neg, sum, add, sub, mul, round, unlike, below}
+use lib.Ieee.Fits.{down_pos}
 use lib.Ieee.Exact.{HasValue}
 use lib.Ieee.Back.{round_whole}
 use lib.Ieee.Scale.{round_same}

@@ -1,16 +1,15 @@
 -- Floats of at most a half against whole numbers, and the least normal number against them: what a test of a float against an error
 -- bound tells where the numbers are whole. Assumes nothing.
-use mathlib.Core.Path.{◌≡◌, refl, sym, ap, ap₂, ◌∙◌, subst}
-use mathlib.Core.Logic.{◌⊎◌, inl, inr}
-use Prim.Native.Nat.{ℕ, zero, suc, ◌+◌, ◌-◌, ◌*◌, ◌^◌, ◌≤◌, ◌<◌, zero-le}
-use native.Mathlib.Nat.{zero-mul, mul-zero, mul-one, one-mul, mul-pos, zero-lt-suc, lt_irrefl, le_refl, le_trans, le_of_eq, le_of_lt, lt_of_lt_of_le, lt_of_le_of_lt, mul_assoc, mul_comm, mul_left_comm, mul_right_comm, mul-lt-mul_of_pos_right, mul-le-mul_right}
+use mathlib.Core.Path.{◌≡◌, refl, sym, ap, ◌∙◌, subst}
+use Prim.Native.Nat.{ℕ, zero, suc, ◌+◌, ◌*◌, ◌^◌, ◌≤◌, ◌<◌, zero-le}
+use native.Mathlib.Nat.{zero-mul, mul-one, one-mul, mul-pos, zero-lt-suc, lt_irrefl, le_trans, le_of_eq, le_of_lt, lt_of_lt_of_le, mul_assoc, mul_comm, mul_left_comm, mul-lt-mul_of_pos_right, mul-le-mul_right}
 use native.Mathlib.Omega.{arith}
-use mathlib.Core.Bool.{Bool, true, false, not, ◌&&◌, ◌||◌, cond, beq, true≢false, false≢true}
-use lib.IntN.{ℤ, pos, negsuc, neg_ℤ, nat_abs, pos-ne-negsuc}
-use lib.Dec.{T, ltb, leb, eqb, ltb→lt, nltb→le, eqb→eq}
+use mathlib.Core.Bool.{Bool, true, false, ◌&&◌, ◌||◌, cond, beq, true≢false}
+use lib.IntN.{ℤ, pos, negsuc, nat_abs, pos-ne-negsuc}
+use lib.Dec.{T, ltb, eqb, ltb→lt, eqb→eq}
 use lib.Pow.{pow_pos}
-use lib.Ieee.{Float, nan, inf, fin, Format, binary64, up, down, low, emax, prec, le, lt, mul, round, units, odd, below}
-use lib.Ieee.Fits.{up_pos, down_pos, round_is}
+use lib.Ieee.{Float, nan, inf, fin, binary64, up, down, low, emax, prec, le, lt, mul, round, units, odd, below}
+use lib.Ieee.Fits.{down_pos, round_is}
 use lib.Ieee.Exact.{HasValue, odd_sign}
 use lib.Ieee.Order.{round_mono, le_of_values, kept, drop}
 use lib.Ieee.Scale.{finite}

@@ -1,18 +1,17 @@
 -- A float compared with zero: its size, and whether it is finite. Assumes nothing.
-use mathlib.Core.Path.{◌≡◌, refl, sym, ap, ◌∙◌, subst}
-use Prim.Native.Nat.{ℕ, zero, suc, ◌+◌, ◌-◌, ◌*◌, ◌^◌, ◌≤◌, ◌<◌, zero-le}
-use native.Mathlib.Nat.{zero-mul, mul-one, mul-pos, zero-lt-suc, lt_irrefl, sub_self, le_refl, eq_of_mul-eq-mul_right, mul-zero, mul_comm, add-zero, pow-suc}
-use mathlib.Core.Bool.{Bool, true, false, not, ◌&&◌, ◌||◌, cond, beq, true≢false, false≢true}
+use mathlib.Core.Path.{◌≡◌, refl, sym, ◌∙◌, subst}
+use Prim.Native.Nat.{ℕ, zero, suc, ◌*◌, ◌^◌, ◌<◌, zero-le}
+use native.Mathlib.Nat.{zero-mul, mul-one, mul-pos, zero-lt-suc, lt_irrefl, sub_self, le_refl, mul_comm, add-zero, pow-suc}
+use mathlib.Core.Bool.{Bool, true, false, not, ◌&&◌, ◌||◌, beq, true≢false, false≢true}
 use native.Mathlib.Omega.{arith}
 use lib.IntN.{ℤ, pos, negsuc}
-use lib.Signed.{lt_z}
-use lib.Dec.{T, ltb, leb, eqb, eqb→eq, eqb-suc-zero}
+use lib.Dec.{T, ltb, eqb, eqb→eq, eqb-suc-zero}
 use lib.Pow.{pow_pos}
-use lib.Ieee.{Float, nan, inf, fin, binary64, up, down, low, lt, eq, neg, sub, sum, round, fits, of_bits}
+use lib.Ieee.{Float, nan, inf, fin, binary64, up, down, lt, eq, neg, sub, sum, round, fits, of_bits}
 use lib.Ieee.Fits.{up_pos, down_pos}
 use lib.Ieee.Exact.{HasValue, round_exact}
 use lib.Ieee.Scale.{finite}
-use borrow.Author.Tests.{lt-ltb, le-ltb, eq-eqb, ne_eqb, ltb-true, eqb-true}
+use borrow.Author.Tests.{lt-ltb, le-ltb, eq-eqb, ne_eqb, eqb-true}
 use Rattle.floats.specs.Whole.{abs_f}
 
 -- 0.0, as a program's literal has it and as a value

@@ -1,4 +1,6 @@
 // The house order of two triangles of the working area: each is turned so that its least number is first.
+#![tactic(auto)]
+
 ghost use Rattle.std.specs.Prelude.{◌≡◌, ◌*◌, ◌≤◌, ◌<◌, length};
 ghost use Rattle.nets.specs.Layout.{net_of};
 ghost use Rattle.nets.specs.Location.{least, second, third, earlier};

@@ -1,4 +1,6 @@
 // Single half-edges in the lent working area. Crate nets says in specs/Layout what stands where.
+#![tactic(auto)]
+
 ghost use Rattle.std.specs.Prelude.{◌≡◌, ◌+◌, ◌*◌, ◌/◌, ◌≤◌, ◌<◌, length, get_or};
 ghost use Rattle.plane.specs.Halfedges.{nxt};
 ghost use Rattle.nets.specs.Layout.{cell, tell};

@@ -1,4 +1,6 @@
 // The sheet rules that ask for the numbers of a list alone: 2 and 4.
+#![tactic(auto)]
+
 ghost use Rattle.std.specs.Prelude.{◌≡◌, ◌+◌, ◌*◌, ◌<◌, eqb, length};
 ghost use Rattle.algebra.specs.Tests.{all_to, any_to};
 ghost use Rattle.plane.specs.Halfedges.{nxt};

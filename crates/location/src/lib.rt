@@ -1,5 +1,7 @@
 // Step 1 of the building steps: the triangle of the working area in which a point lies, and its edge that the point lies on. Crate nets says in
 // specs/Location what each call answers.
+#![tactic(auto)]
+
 ghost use Rattle.std.specs.Prelude.{◌≡◌, suc, ◌+◌, ◌*◌, ◌<◌};
 ghost use Rattle.tables.specs.Data.{point_count, point};
 ghost use Rattle.nets.specs.Layout.{net_of, InRange};

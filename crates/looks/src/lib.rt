@@ -1,4 +1,6 @@
 // Step 4: what one half-edge of a triangle tells the search around a corner.
+#![tactic(auto)]
+
 ghost use Rattle.std.specs.Prelude.{◌≡◌, ◌*◌, ◌<◌, length, get_or};
 ghost use Rattle.tables.specs.Data.{point_count, point};
 ghost use Rattle.nets.specs.Layout.{net_of};

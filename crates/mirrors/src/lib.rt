@@ -1,1 +1,2 @@
 // The working area during a recovery, seen as a net of the model of recovery: definitions (specs/) and their laws (proofs/), and no code.
+#![tactic(auto)]

@@ -6,7 +6,7 @@ use mathlib.Core.Logic.{◌⊎◌, inl, inr}
 use mathlib.Core.Path.{◌≡◌, refl, sym, ◌∙◌, subst}
 use Prim.Native.Nat.{ℕ, zero, suc, ◌+◌, ◌*◌, ◌-◌, ◌/◌, ◌<◌, ◌≤◌}
 use native.Mathlib.Omega.{arith}
-use lib.IntN.{ℤ, pos, ◌+ℤ◌, +ℤ_idl}
+use lib.IntN.{ℤ, pos, +ℤ_idl}
 use Rattle.algebra.proofs.Order.{not_zero}
 use Rattle.algebra.specs.Order.{Pos, NonNeg}
 use Rattle.algebra.specs.Sum.{sum_to}
@@ -21,11 +21,11 @@ use Rattle.plane.specs.Halfedges.{nxt}
 use Rattle.plane.specs.Points.{Pt}
 use Rattle.plane.specs.Tiles.{OnSide}
 use Rattle.nets.specs.Building.{OnBase, on_side, on_boundary, on_rim, start, base_of, Builds, alone, more, Built}
-use Rattle.nets.specs.Flipping.{Wants, Legal, done, stay, turn}
+use Rattle.nets.specs.Flipping.{Legal, done, stay, turn}
 use Rattle.nets.specs.Location.{Split, inserted}
 use Rattle.nets.specs.Nets.{Net}
 use Rattle.nets.specs.Slots.{put, write}
-use Rattle.nets.specs.Tilings.{tri, Tiling, Has, Present, Unmarked}
+use Rattle.nets.specs.Tilings.{tri, Tiling, Has, Unmarked}
 use Rattle.nets.proofs.Ends.{room6}
 use Rattle.nets.proofs.Flip.{flip_tris}
 use Rattle.nets.proofs.FlipTile.{tile_apart, far, flip_tile}

@@ -3,7 +3,7 @@ use mathlib.Core.Bool.{Bool, true, false, cond}
 use mathlib.Core.List.{List}
 use mathlib.Core.Logic.{◌⊎◌, inl, inr}
 use mathlib.Core.Path.{◌≡◌, refl, sym, ap, ◌∙◌, subst, fun_ext}
-use Prim.Native.Nat.{ℕ, zero, suc, ◌+◌, ◌*◌, ◌<◌, ◌≤◌}
+use Prim.Native.Nat.{ℕ, zero, suc, ◌+◌, ◌<◌, ◌≤◌}
 use native.Mathlib.Omega.{arith}
 use lib.IntN.{ℤ}
 use Rattle.algebra.specs.Order.{Pos, NonNeg}
@@ -18,8 +18,8 @@ use Rattle.tables.proofs.Ranks.{count_lt, before_irrefl}
 use Rattle.nets.specs.Building.{base_of, second_corner, third_corner, BuildsTo, BuiltFrom, Built}
 use Rattle.nets.specs.Location.{inserted}
 use Rattle.nets.specs.Nets.{Net}
-use Rattle.nets.proofs.Built.{built, build, goes_in, few_more}
-use Rattle.nets.proofs.Insert.{Inserted, More}
+use Rattle.nets.proofs.Built.{built, build, goes_in}
+use Rattle.nets.proofs.Insert.{Inserted}
 
 -- ---- a rank is below n
 

@@ -2,7 +2,6 @@
 use mathlib.Core.List.{[], ◌∷◌}
 use mathlib.Core.Logic.{◌⊎◌, inl, inr}
 use mathlib.Core.Path.{◌≡◌, sym, ap, ap₂, ◌∙◌}
-use Prim.Native.Nat.{◌+◌, ◌*◌}
 use lib.IntN.{ℤ, pos, ◌+ℤ◌, ◌*ℤ◌, zero-*ℤ, *ℤ-zero, +ℤ_idr, +ℤ_invl}
 use Rattle.algebra.proofs.Order.{pos_by, pos_nn, pos*pos, pos+nn, nn+pos, nn*nn, nn+nn, pos_cancel, not_zero, Sign, is_pos, is_below_zero, is_zero, sign}
 use Rattle.algebra.proofs.Ring.{var, con, ◌⊕◌, ◌⊗◌, ⊝◌, solve}

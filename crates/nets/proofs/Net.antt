@@ -1,7 +1,7 @@
 -- A net of triangles by half-edges: half-edge h = 3 t + k is the k-th of triangle t, from corner org h to the next corner. adj h is the
 -- partner's number and 1, or 0 for none; con h the mark. `carry`: what keeps a net linked. Assumes nothing.
 use mathlib.Core.Path.{◌≡◌, refl, sym, ap, ◌∙◌, subst}
-use Prim.Native.Nat.{ℕ, zero, suc, ◌+◌, ◌*◌, ◌<◌}
+use Prim.Native.Nat.{ℕ, zero, suc, ◌*◌, ◌<◌}
 use native.Mathlib.Omega.{arith}
 use Rattle.nets.specs.Nets.{Net, dst, Linked}
 

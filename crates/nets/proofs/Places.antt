@@ -1,24 +1,23 @@
 -- What the steps write in the working area is what they make of the net, and they keep the ranks, the free places and the rest. Assumes
 -- nothing.
-use mathlib.Core.List.{List, [], ◌∷◌}
-use mathlib.Core.Path.{◌≡◌, refl, sym, ap, ◌∙◌, subst}
+use mathlib.Core.List.{List}
+use mathlib.Core.Path.{◌≡◌, refl, ap, ◌∙◌}
 use Prim.Native.Nat.{ℕ, zero, suc, ◌+◌, ◌*◌, ◌/◌, ◌%◌, ◌<◌, ◌≤◌}
 use native.Mathlib.Omega.{arith}
-use lib.ListN.{length, get_or, set, length-set}
+use lib.ListN.{length, set, length-set}
 use lib.Seq.{get_or-set_other}
 use lib.IntN.{ℤ}
 use Rattle.plane.specs.Base.{Side}
 use Rattle.plane.specs.Halfedges.{nxt}
 use Rattle.plane.specs.Points.{Pt}
-use Rattle.nets.specs.Nets.{Net, prv, Linked}
+use Rattle.nets.specs.Nets.{Net, prv}
 use Rattle.nets.specs.Slots.{Rec, write, grow}
-use Rattle.nets.specs.Moves.{Move, links, after}
+use Rattle.nets.specs.Moves.{Move, after}
 use Rattle.nets.specs.Steps.{flip_moves, flip_a, flip_b, flip_raw, flip, inside_moves, in_a, in_b, in_c, inside_raw, inside, side_moves, side_a, side_b, side_raw, side_split, edge_moves, edge_a, edge_b, edge_c, edge_e, edge_raw, edge_split}
-use Rattle.nets.specs.Layout.{cell, net_of, tell, tells, put_rec, flag_cell, stack_cell, rank_cell, hint_cell, hint, born, flip_list, inside_list, side_list, edge_list, InRange, Kept}
+use Rattle.nets.specs.Layout.{cell, net_of, tells, put_rec, hint_cell, hint, born, flip_list, inside_list, side_list, edge_list, InRange}
 use Rattle.nets.specs.Tilings.{Tiling}
-use Rattle.nets.proofs.Slot.{nxt_in, nxt_slot, nxt_slot2}
-use Rattle.nets.proofs.Surgery.{All}
-use Rattle.nets.proofs.Memory.{net_eq, put_length, net_put, net_tells, tells_length}
+use Rattle.nets.proofs.Slot.{nxt_in}
+use Rattle.nets.proofs.Memory.{net_eq, put_length, net_put, net_tells}
 
 -- ---- a place that is no cell
 

@@ -8,15 +8,14 @@ use Prim.Native.Nat.{ℕ, suc, ◌*◌, ◌/◌, ◌<◌, ◌≤◌}
 use native.Mathlib.Decide.{dec_lt}
 use native.Mathlib.Omega.{arith}
 use lib.Dec.{eqb}
-use lib.IntN.{ℤ, pos}
+use lib.IntN.{ℤ}
 use lib.ListN.{length}
 use Rattle.algebra.proofs.Order.{pos_by}
 use Rattle.algebra.proofs.Sum.{eqb_no, by_bool}
-use Rattle.algebra.specs.Order.{Pos}
 use Rattle.plane.proofs.Circle.{incircle_flip}
 use Rattle.plane.proofs.Orient.{orient_cyc}
 use Rattle.plane.specs.Base.{Side}
-use Rattle.plane.specs.Determinants.{orient, incircle}
+use Rattle.plane.specs.Determinants.{orient}
 use Rattle.plane.specs.Halfedges.{nxt}
 use Rattle.plane.specs.Points.{Pt}
 use Rattle.nets.specs.Flipping.{Gains, Wants, Lower, by_first, by_second, leave, reborn, Legal, done, stay, turn}

@@ -1,13 +1,13 @@
 -- Location never fails: the walk and the scan behind it end in a triangle that holds the point. Assumes nothing.
 use mathlib.Core.Bool.{Bool, true, false, cond, ◌&&◌, not, true≢false, false≢true}
 use mathlib.Core.Path.{◌≡◌, refl, sym, ap, ◌∙◌, subst}
-use Prim.Native.Nat.{ℕ, zero, suc, ◌+◌, ◌*◌, ◌/◌, ◌<◌, ◌≤◌}
+use Prim.Native.Nat.{ℕ, zero, suc, ◌+◌, ◌*◌, ◌/◌, ◌<◌}
 use native.Mathlib.Decide.{dec_lt}
 use native.Mathlib.Omega.{arith}
-use lib.IntN.{ℤ, pos, neg_ℤ}
-use Rattle.algebra.proofs.Order.{not_both, not_zero, Sign, is_pos, is_below_zero, is_zero, sign, pos_nn}
+use lib.IntN.{ℤ, neg_ℤ}
+use Rattle.algebra.proofs.Order.{Sign, is_pos, is_below_zero, is_zero, sign, pos_nn}
 use Rattle.algebra.proofs.Tests.{by_test}
-use Rattle.algebra.specs.Order.{Pos, NonNeg}
+use Rattle.algebra.specs.Order.{NonNeg}
 use Rattle.algebra.specs.Tests.{posb}
 use Rattle.plane.proofs.Halfedges.{nxt0, nxt1, nxt2}
 use Rattle.plane.proofs.Sign.{posb_yes, posb_pos, nn_zero, nn_clash}

@@ -1,4 +1,6 @@
 // House order: the order of two triples, and rule 8, that the triples of a list are in it.
+#![tactic(auto)]
+
 ghost use Rattle.std.specs.Prelude.{◌≡◌, ◌+◌, ◌-◌, ◌*◌, ◌≤◌, length};
 ghost use Rattle.algebra.specs.Tests.{all_to};
 ghost use Rattle.tables.specs.Rules.{triples, least_first, rises, rises_to, rule8};

@@ -1,4 +1,6 @@
 // An answer as one number of 64 bits: a number in the upper half, and a value in the lower one.
+#![tactic(auto)]
+
 ghost use Rattle.std.specs.Prelude.{◌≡◌, ◌<◌, ◌≤◌, ◌+◌, ◌*◌};
 ghost use Rattle.tables.specs.Answers.{ofRefusal, ofVerdict};
 ghost use Rattle.row_numbers.specs.Numbers.{value_in, place_of};

@@ -4,6 +4,8 @@
 // Rows 9 and 10 try each pair with each point and with each pair before it, which serves where there are few pairs, or so many that there is
 // no room to put them in order; crates spans and sweeps have these rows in order of rank. The inner loops only call `in_segment` and `crosses`,
 // whose first tests nearly always go one way.
+#![tactic(auto)]
+
 ghost use Rattle.std.specs.Prelude.{◌≡◌, ◌<◌};
 ghost use Rattle.segments.specs.Near.{Near};
 ghost use Rattle.tables.specs.Answers.{lowest};

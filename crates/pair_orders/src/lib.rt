@@ -1,5 +1,7 @@
 // The pairs in the order in which they begin: each pair is an item of the ranks of its lesser and of its greater end and of its number, and
 // the items are sorted. A sweep along the points in order of rank meets the pairs in this order.
+#![tactic(auto)]
+
 ghost use Rattle.std.specs.Prelude.{◌≡◌, ◌+◌, ◌*◌, ◌≤◌, min, max, length};
 ghost use Rattle.tables.specs.Data.{point_count, pair_count};
 ghost use Rattle.tables.specs.Figures.{Figure};

@@ -1,6 +1,8 @@
 // Rows 8 to 10 of document 01's table, in the table's order. Row 8 is crate pair_checks. Rows 9 and 10 are there too, where each pair is
 // tried with each point and with each pair before it; crates spans and sweeps have them in order of rank, where a pair is tried with those
 // alone that come between its ends. The promises are over the definitions of crate tables: Data, Refusals, Answers.
+#![tactic(auto)]
+
 ghost use Rattle.std.specs.Prelude.{◌≡◌, ◌*◌, ◌%◌, ◌≤◌, length};
 ghost use Rattle.segments.specs.Near.{Near};
 ghost use Rattle.tables.specs.Answers.{yes, row_at, ofChecked};

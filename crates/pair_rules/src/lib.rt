@@ -1,4 +1,6 @@
 // Rule 6: each pair is an edge of the list. The edges that are pairs are marked, for rule 7.
+#![tactic(auto)]
+
 ghost use Rattle.std.specs.Prelude.{◌≡◌, true, ◌||◌, ◌<◌, length};
 ghost use Rattle.algebra.specs.Tests.{any_to};
 ghost use Rattle.tables.specs.Rules.{edge_is, rule2};

@@ -1,6 +1,8 @@
 // What the sheet rules ask of the base: that the areas fill it, which is rule 5, and which edges lie along its sides, for rule 3.
 //
 // Document 01, "The eight sheet rules", says what each call answers. The definitions are those of crate tables.
+#![tactic(auto)]
+
 ghost use Rattle.std.specs.Prelude.{◌≡◌, cond, ◌&&◌, ◌<◌, ◌≤◌, pos, length};
 ghost use Rattle.algebra.specs.Tests.{eq_z};
 ghost use Rattle.tables.specs.Data.{point_count, clockwise};

@@ -1,5 +1,7 @@
 // Refusals 4 and 7 of document 01's table, whose places are points and which need no base: the lowest point beyond the limit, and the
 // lowest at the place of one before it. The promises are over the definitions of crate tables: Data, Refusals, Answers.
+#![tactic(auto)]
+
 ghost use Rattle.std.specs.Prelude.{◌≡◌, ◌<◌};
 ghost use Rattle.tables.specs.Answers.{lowest};
 ghost use Rattle.tables.specs.Data.{point_count, point, same};

@@ -1,5 +1,7 @@
 // The ranks of the points, their places in the order of x, then y: each point is an item of the words of x, of y and of its number, the
 // items are sorted, and each point's place is written where the working area keeps its rank.
+#![tactic(auto)]
+
 ghost use Rattle.std.specs.Prelude.{◌≡◌, ◌+◌, ◌*◌, ◌≤◌, nat_abs, length};
 ghost use Rattle.signs.specs.Answers.{limit};
 ghost use Rattle.tables.specs.Data.{point_count};

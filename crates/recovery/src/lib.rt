@@ -1,5 +1,7 @@
 // Step 4 of the building steps: the pairs, in order. A pair that is an edge already is marked; else the triangles that its segment crosses are made
 // anew, its edge is marked, and edges are flipped until step 3 flips none.
+#![tactic(auto)]
+
 ghost use Rattle.std.specs.Prelude.{◌≡◌, ◌<◌, length, get_or};
 ghost use Rattle.tables.specs.Data.{pair_count, point, end_a, end_b};
 ghost use Rattle.nets.specs.Layout.{net_of};

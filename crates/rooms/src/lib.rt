@@ -1,4 +1,6 @@
 // Row 3 of the refusals' table, the rooms, and the clearing of lent room.
+#![tactic(auto)]
+
 ghost use Rattle.std.specs.Prelude.{◌≡◌, ◌-◌, ◌*◌, ◌≤◌, ltb, length};
 ghost use Rattle.tables.specs.Refusals.{short_room};
 ghost use Rattle.tables.specs.Verdicts.{cleared};

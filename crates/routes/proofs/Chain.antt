@@ -1,6 +1,6 @@
 -- A chain whose corners have needles through the base. The scan's choice is an apex strictly left of the base, no other corner of the
 -- chain is at its place, and the chain before it and the chain behind it have needles through the two new bases. Assumes nothing.
-use mathlib.Core.Path.{◌≡◌, sym, ap, ◌∙◌, subst}
+use mathlib.Core.Path.{◌≡◌, sym, ◌∙◌, subst}
 use Prim.Native.Nat.{ℕ, zero, suc, ◌-◌, ◌≤◌, ◌<◌}
 use native.Mathlib.Decide.{ℕ_discrete, dec_lt}
 use native.Mathlib.Omega.{arith}

@@ -1,8 +1,8 @@
 -- The step of the filling on six bare points: two needles pierce a base, and the one whose left end is the apex stands behind. Then the
 -- other one pierces the sub-base before the apex. Mirror.antt has the same for the sub-base behind it. Assumes nothing.
 use mathlib.Core.List.{[], ◌∷◌}
-use mathlib.Core.Path.{◌≡◌, sym, ap, ap₂, ◌∙◌}
-use lib.IntN.{ℤ, pos, ◌+ℤ◌, ◌-ℤ◌, ◌*ℤ◌, neg_ℤ, zero-*ℤ, *ℤ_comm, +ℤ_invl, neg_ℤ-neg_ℤ}
+use mathlib.Core.Path.{◌≡◌, ap, ap₂, ◌∙◌}
+use lib.IntN.{ℤ, pos, ◌+ℤ◌, ◌-ℤ◌, ◌*ℤ◌, neg_ℤ, zero-*ℤ, *ℤ_comm, +ℤ_invl}
 use Rattle.algebra.proofs.Laws.{*ℤ-neg, eq_of_sub_zero}
 use Rattle.algebra.proofs.Order.{pos_by, nn_by, pos_nn, nn_pos, pos+nn, nn+pos, pos+pos, nn+nn, pos*pos, nn*nn, sq_nn, Sign, is_below_zero, is_zero, is_pos, sign, not_zero, pos_cancel}
 use Rattle.algebra.proofs.Ring.{Expr, con, ◌⊕◌, ◌⊖◌, ◌⊗◌, ⊝◌, solve}

@@ -1,4 +1,6 @@
 // The refusals by number: document 01's number of a refusal, and its place.
+#![tactic(auto)]
+
 ghost use Rattle.std.specs.Prelude.{◌≡◌, ◌≤◌};
 ghost use Rattle.tables.specs.Answers.{ofRefusal};
 ghost use Rattle.row_numbers.specs.Numbers.{number_in, place_of};

@@ -3,6 +3,8 @@
 //
 // The cavity's corners stand in the chain, and the gap after each of them is a parked half-edge; crate chains says in specs/Areas what stands
 // where.
+#![tactic(auto)]
+
 ghost use Rattle.std.specs.Prelude.{◌≡◌, ◌*◌, ◌≤◌, ◌<◌, length};
 ghost use Rattle.chains.specs.Areas.{chain_of, slot_of, move_w, join_w, cut_w};
 ghost use Rattle.seams.specs.Fits.{Row, CanMove, CanCut};

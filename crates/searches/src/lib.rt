@@ -4,6 +4,8 @@
 // clockwise. On a tiling that meets all triangles of a, and one of them has the edge or is left by the segment, so that the search
 // costs what stands around a and no more. Nothing here leans on that: what the search answers is tried where it is found, and only a pass over
 // all triangles may answer that there is neither.
+#![tactic(auto)]
+
 ghost use Rattle.std.specs.Prelude.{◌≡◌, ◌+◌, ◌*◌, ◌≤◌, ◌<◌, length};
 ghost use Rattle.tables.specs.Data.{point_count, point};
 ghost use Rattle.tables.specs.Figures.{Figure};

@@ -1,6 +1,8 @@
 // The signs of numbered points that are known to be near: on which side of a segment a point lies, and on which side of a circle.
 //
 // Document 01, "Signs", says what each call answers.
+#![tactic(auto)]
+
 ghost use Rattle.std.specs.Prelude.{◌≡◌, [], ◌∷◌, ◌<◌, pos, neg_ℤ};
 ghost use Rattle.algebra.specs.Size.{Small};
 ghost use Rattle.algebra.specs.Tests.{posb, eq_z};

@@ -1,5 +1,7 @@
 // The sheet that is handed out: the triangles of the working area as triples of point numbers in house order. Each triple is turned so
 // that its least number is first, and the triples are sorted as items of three words.
+#![tactic(auto)]
+
 ghost use Rattle.std.specs.Prelude.{◌+◌, ◌*◌, ◌≤◌, length};
 ghost use Rattle.sheets.specs.Steps.{Turned, Gathered, Copied};
 ghost use Rattle.sheets.specs.Sheets.{SheetWritten};

@@ -1,4 +1,6 @@
 // The sign of an orientation or of a circle by number.
+#![tactic(auto)]
+
 ghost use Rattle.std.specs.Prelude.{◌≡◌};
 ghost use Rattle.signs.specs.Answers.{wholeNumber};
 

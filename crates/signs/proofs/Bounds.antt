@@ -1,8 +1,7 @@
 -- The size of the determinants within the limit: at most 8 · 8,192² for an orientation and 192 · 8,192⁴ for a circle, which is below
 -- 2 ^ 60. Assumes nothing.
-use mathlib.Core.Path.{◌≡◌}
 use mathlib.Core.List.{[], ◌∷◌}
-use Prim.Native.Nat.{ℕ, ◌*◌, ◌^◌, ◌≤◌, ◌<◌}
+use Prim.Native.Nat.{◌*◌, ◌^◌, ◌≤◌, ◌<◌}
 use native.Mathlib.Nat.{lt_of_le_of_lt}
 use lib.Dec.{lit<}
 use lib.IntN.{ℤ, nat_abs}

@@ -1,8 +1,8 @@
 -- The tests of the limit, and the answers that follow from them. Assumes nothing.
-use mathlib.Core.Path.{◌≡◌, refl, sym, ap, ap₂, ◌∙◌, subst}
-use mathlib.Core.Bool.{Bool, true, false, cond, ◌&&◌, true≢false, false≢true}
+use mathlib.Core.Path.{◌≡◌, refl, sym, ap, subst}
+use mathlib.Core.Bool.{Bool, true, false, ◌&&◌, false≢true}
 use mathlib.Core.List.{List, [], ◌∷◌}
-use Prim.Native.Nat.{ℕ, suc, ◌≤◌, ◌<◌, suc-le-suc}
+use Prim.Native.Nat.{ℕ, suc, ◌≤◌, suc-le-suc}
 use lib.Dec.{T, leb, leb→le}
 use lib.IntN.{ℤ, pos, negsuc, nat_abs}
 use lib.Signed.{lt_z, le_z}
@@ -10,7 +10,7 @@ use mir.Syntax.{w32}
 use borrow.Author.Tests.{lt-leb, le-leb, ltb-true, ltb-false}
 use Rattle.algebra.specs.Size.{Small}
 use Rattle.algebra.proofs.Ring.{look}
-use Rattle.algebra.proofs.Machine.{back, backs, Fit, backs_fit}
+use Rattle.algebra.proofs.Machine.{back, Fit, backs_fit}
 use Rattle.plane.specs.Points.{Pt, at}
 use Rattle.plane.specs.Determinants.{orient, incircle}
 use Rattle.signs.specs.Signs.{sign_z}

@@ -11,7 +11,6 @@ use Rattle.signs.specs.Signs.{sign_z, flipped}
 use Rattle.signs.specs.Answers.{within, orientAnswer, circleAnswer, opposite}
 use Rattle.signs.specs.Laws.{SignLaws}
 use Rattle.signs.specs.declared.Sign.{Sign}
-use Rattle.signs.specs.declared.Sign.TheVariants.{Neg, Zero, Pos}
 use Rattle.signs.specs.declared.WholeSign.{WholeSign}
 use Rattle.signs.specs.declared.WholeSign.TheVariants.{Known, OutOfRange}
 

@@ -1,6 +1,6 @@
 -- The sign of a float and of an integer, from tests against zero. Assumes nothing.
 use mathlib.Core.Path.{◌≡◌, refl, sym, ap, ◌∙◌}
-use Prim.Native.Nat.{ℕ, zero, suc, zero-le}
+use Prim.Native.Nat.{zero, suc, zero-le}
 use native.Mathlib.Nat.{zero-lt-suc, lt_irrefl, le_of_eq, lt_of_lt_of_le}
 use mathlib.Core.Bool.{Bool, true, false, true≢false, false≢true}
 use lib.IntN.{ℤ, pos, negsuc}

@@ -1,5 +1,5 @@
 -- The sign of a number. Definitions only.
-use Rattle.std.specs.Prelude.{Bool, true, false, ℕ, zero, suc, ℤ, pos, negsuc, Float}
+use Rattle.std.specs.Prelude.{true, false, zero, suc, ℤ, pos, negsuc, Float}
 use Rattle.std.specs.Float.{nan, inf, fin}
 use Rattle.signs.specs.declared.Sign.{Sign}
 use Rattle.signs.specs.declared.Sign.TheVariants.{Neg, Zero, Pos}

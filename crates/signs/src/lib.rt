@@ -2,6 +2,8 @@
 //
 // The original is robust/exact/mod.rs (`Sign`) and intpred.rs; document 01, section "Signs", says what each call answers. Every promise is
 // over definitions of specs/: Signs, Answers. The float tier, crate float_signs, stands on this one.
+#![tactic(auto)]
+
 ghost use Rattle.std.specs.Prelude.{◌≡◌, ◌&&◌, [], ◌∷◌, leb, nat_abs};
 ghost use Rattle.algebra.specs.Size.{Small};
 ghost use Rattle.plane.specs.Points.{at};

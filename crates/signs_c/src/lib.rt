@@ -1,5 +1,7 @@
 // The calls of crates signs and float_signs for programs in other languages, by numbers alone: the static library that the comparison
 // with the original links.
+#![tactic(auto)]
+
 ghost use Rattle.std.specs.Prelude.{◌≡◌};
 ghost use Rattle.plane.specs.Points.{at};
 ghost use Rattle.signs.specs.Signs.{sign_f, number};

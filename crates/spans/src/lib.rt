@@ -2,6 +2,8 @@
 // the pair's ends in the order of x, then y, so only the points between them are tried.
 //
 // Crate ranks has written where each point stands in that order, and which point stands at each place of it.
+#![tactic(auto)]
+
 ghost use Rattle.std.specs.Prelude.{◌≡◌, ◌*◌, ◌<◌, ◌≤◌, length};
 ghost use Rattle.algebra.specs.Tests.{any_to};
 ghost use Rattle.tables.specs.Answers.{lowest};

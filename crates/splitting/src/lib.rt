@@ -1,5 +1,7 @@
 // Step 1 of the building steps, once the triangle is known: a point splits the triangle that it lies in, or the one or two triangles of
 // the edge that it lies on, and the new triangles become suspects in the order of their birth.
+#![tactic(auto)]
+
 ghost use Rattle.std.specs.Prelude.{cond, ◌≡◌, ℕ, ◌+◌, ◌*◌, ◌/◌, ◌≤◌, ◌<◌, length};
 ghost use Rattle.tables.specs.Data.{point_count, point};
 ghost use Rattle.nets.specs.Layout.{net_of, InRange};

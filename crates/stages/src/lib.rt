@@ -1,1 +1,2 @@
 // How far the pairs have come in a net: definitions (specs/) and their laws (proofs/), and no code.
+#![tactic(auto)]

@@ -1,5 +1,7 @@
 // The flip of the building steps, in the lent working area, and the triangle of a half-edge, which each step reads first. Crate nets says
 // in specs/Layout what a step makes of the list, and in specs/Steps what it makes of the net.
+#![tactic(auto)]
+
 ghost use Rattle.std.specs.Prelude.{◌≡◌, ◌*◌, ◌<◌, length};
 ghost use Rattle.nets.specs.Layout.{flip_list, InRange};
 ghost use Rattle.nets.specs.Nets.{prv};

@@ -1,5 +1,7 @@
 // The triangles in the lent working area: the record of a triangle by value, and its place. Crate nets says in specs/Layout
 // what stands where.
+#![tactic(auto)]
+
 ghost use Rattle.std.specs.Prelude.{◌≡◌, ◌+◌, ◌*◌, ◌≤◌, ◌<◌, length, get_or};
 ghost use Rattle.nets.specs.Layout.{put_rec, born};
 ghost use Rattle.store.specs.Tri.{tri_at, rec_of};

@@ -1,5 +1,7 @@
 // The stack of suspects in the lent working area, for step 2 of the building steps. Suspect i stands at place 16 i + 10, and a slot that is
 // a suspect has a flag at place 16 s + 9, so that a slot that is none is known without a search.
+#![tactic(auto)]
+
 ghost use Rattle.std.specs.Prelude.{◌≡◌, ◌+◌, ◌-◌, ◌*◌, ◌≤◌, ◌<◌, length, get_or, set};
 ghost use Rattle.nets.specs.Layout.{flag_cell, stack_cell};
 ghost use Rattle.suspects.specs.Stack.{stack, Fresh, Suspects, pushed, Placed, Closed, Left, Reborn};

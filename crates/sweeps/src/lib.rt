@@ -4,6 +4,8 @@
 //
 // The least number of a later pair of two that cross is kept on the way. A pair whose number is not below it cannot lower it, so it is not
 // tried: of a figure that is refused, few pairs are tried once a low one is found.
+#![tactic(auto)]
+
 ghost use Rattle.std.specs.Prelude.{◌≡◌, ◌+◌, ◌*◌, ◌<◌, ◌≤◌, length};
 ghost use Rattle.segments.specs.Near.{Near};
 ghost use Rattle.tables.specs.Answers.{lowest};

@@ -1,12 +1,10 @@
 -- The answers in the paper's own terms: yes (or no refusal), a refusal's number and place, or the number of a broken rule; and for each
 -- answer enum the paper's number and values of each of its cases. Definitions only.
-use Rattle.std.specs.Prelude.{Bool, true, false, cond, ℕ, zero, suc}
+use Rattle.std.specs.Prelude.{Bool, cond, ℕ, zero, suc}
 use Rattle.tables.specs.declared.Refusal.{Refusal}
 use Rattle.tables.specs.declared.Refusal.TheVariants.{OddLength, Counts, Room, FarPoint, NoArea, OutsidePoint, EqualPoint, BadPair, BlockedPair, CrossingPair, StuckPair}
 use Rattle.tables.specs.declared.Checked.{Checked}
-use Rattle.tables.specs.declared.Checked.TheVariants as Checked
 use Rattle.tables.specs.declared.Verdict.{Verdict}
-use Rattle.tables.specs.declared.Verdict.TheVariants as Verdict
 use Rattle.tables.specs.declared.Lowest.{Lowest}
 use Rattle.tables.specs.declared.Lowest.TheVariants.{At, Nowhere}
 

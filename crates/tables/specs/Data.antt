@@ -1,5 +1,5 @@
 -- The lent lists read as points and pairs; the base. Document 01, "What the cutter is handed and hands back". Definitions only.
-use Rattle.std.specs.Prelude.{Bool, true, false, cond, ◌&&◌, ◌||◌, not, List, ℕ, zero, suc, ◌+◌, ◌*◌, ◌/◌, ℤ, pos, neg_ℤ, length, get_or}
+use Rattle.std.specs.Prelude.{Bool, cond, ◌&&◌, List, ℕ, ◌+◌, ◌*◌, ◌/◌, ℤ, pos, neg_ℤ, length, get_or}
 use Rattle.algebra.specs.Tests.{posb, eq_z}
 use Rattle.plane.specs.Points.{Pt, at}
 use Rattle.plane.specs.Determinants.{orient}

@@ -1,5 +1,5 @@
 -- A list of points that passes checks 1 to 7. Definitions only.
-use Rattle.std.specs.Prelude.{Bool, true, false, List, ◌≡◌, ℕ, ◌%◌, ◌<◌, ◌≤◌, ℤ, length}
+use Rattle.std.specs.Prelude.{false, List, ◌≡◌, ℕ, ◌%◌, ◌<◌, ◌≤◌, ℤ, length}
 use Rattle.tables.specs.Data.{point_count}
 use Rattle.tables.specs.Refusals.{far, no_area, outside, again}
 

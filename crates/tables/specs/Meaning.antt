@@ -1,9 +1,8 @@
 -- Demand 3: what an accepted list means. "For an accepted list it is proved that every place strictly inside the base and on no edge is in
 -- one triangle and no other, that each demanded line is an edge, and that no other inner edge has a far corner inside its neighbour's
 -- circle." `Demand3` is proved in proofs/Meaning.antt. Definitions only.
-use Rattle.std.specs.Prelude.{◌≡◌, Bool, true, ◌||◌, List, ℕ, ◌*◌, ◌<◌, T, ℤ}
+use Rattle.std.specs.Prelude.{◌≡◌, ◌||◌, List, ℕ, ◌*◌, ◌<◌, T, ℤ}
 use Rattle.algebra.specs.Order.{Pos}
-use Rattle.plane.specs.Points.{Pt}
 use Rattle.plane.specs.Determinants.{incircle}
 use Rattle.plane.specs.Places.{Place}
 use Rattle.plane.specs.Base.{Within}

@@ -1,12 +1,12 @@
 -- The table of refusals, rows 1 to 10: each row's test, "given exactly when", in the table's order. Definitions only.
-use Rattle.std.specs.Prelude.{Bool, true, false, cond, ◌&&◌, ◌||◌, not, List, ℕ, ◌+◌, ◌-◌, ◌*◌, ◌%◌, leb, ltb, eqb, ℤ, pos, neg_ℤ, length}
+use Rattle.std.specs.Prelude.{Bool, ◌&&◌, ◌||◌, not, List, ℕ, ◌-◌, ◌*◌, ◌%◌, leb, ltb, eqb, ℤ, pos, neg_ℤ, length}
 use Rattle.std.specs.Int.Signed.{le_z}
 use Rattle.algebra.specs.Tests.{posb, eq_z, any_to}
 use Rattle.plane.specs.Points.{Pt}
 use Rattle.plane.specs.Determinants.{orient}
 use Rattle.plane.specs.Base.{Side, s0, s1, s2, next}
 use Rattle.signs.specs.Answers.{limit, within}
-use Rattle.tables.specs.Answers.{Paper, yes, refuses, row, row_at, lowest}
+use Rattle.tables.specs.Answers.{Paper, yes, row, row_at, lowest}
 use Rattle.tables.specs.Data.{point_count, pair_count, point, end_a, end_b, base, same}
 
 -- 2: n < 3, n > 4,096 or m > 12,288

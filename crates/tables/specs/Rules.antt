@@ -1,7 +1,7 @@
 -- Ranks, step 3, house order, and the eight sheet rules of a list of triples. Document 01, "Building steps", 3, and "The eight sheet
 -- rules". The number at place h = 3t + j of the list is corner j of triple t, and edge h runs from there to the triple's next corner.
 -- Definitions only.
-use Rattle.std.specs.Prelude.{Bool, true, false, cond, ◌&&◌, ◌||◌, not, List, ℕ, zero, suc, ◌+◌, ◌*◌, ◌/◌, ◌-◌, min, max, leb, ltb, eqb, ℤ, pos, neg_ℤ, length, get_or}
+use Rattle.std.specs.Prelude.{Bool, cond, ◌&&◌, ◌||◌, not, List, ℕ, zero, suc, ◌+◌, ◌*◌, ◌/◌, ◌-◌, min, max, leb, ltb, eqb, ℤ, pos, length, get_or}
 use Rattle.std.specs.Int.Signed.{lt_z}
 use Rattle.algebra.specs.Sum.{sum_to}
 use Rattle.algebra.specs.Tests.{posb, eq_z, all_to, any_to}

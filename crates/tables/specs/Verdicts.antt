@@ -1,5 +1,5 @@
 -- What the checker answers: refusals 1 to 10 in the table's order, then yes or the lowest broken rule. Definitions only.
-use Rattle.std.specs.Prelude.{Bool, not, cond, ◌&&◌, List, [], ◌∷◌, ℕ, zero, suc, ◌*◌, ◌%◌, eqb, leb, ℤ, length}
+use Rattle.std.specs.Prelude.{not, cond, List, [], ◌∷◌, ℕ, zero, suc, ◌*◌, ◌%◌, eqb, leb, ℤ, length}
 use Rattle.tables.specs.Answers.{Paper, yes, refuses, breaks, rule}
 use Rattle.tables.specs.Data.{point_count}
 use Rattle.tables.specs.Refusals.{rows, short_work}

@@ -1,4 +1,5 @@
 // Document 01 as definitions (specs/), and the answers that it numbers, as enums. There is no code here.
+#![tactic(auto)]
 
 // The refusals of the table, in its order; a place is a point's number or a pair's.
 #[derive(Clone, Copy)]

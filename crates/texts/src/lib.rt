@@ -1,4 +1,6 @@
 // The words of a text, which are the longest runs of bytes that are no white space, and the numbers that they are.
+#![tactic(auto)]
+
 ghost use Rattle.std.specs.Prelude.{◌≡◌, true, false, ℕ, ◌+◌, ◌*◌, ◌-◌, ◌≤◌, ◌<◌, length};
 ghost use Rattle.texts.specs.Words.{is_space, is_digit, word_start, word_end, capped, digits_of, number_at, word_at, next_word};
 ghost use Rattle.texts.specs.Figures.{signed, allowed, taken, read_all, put_points, put_pairs, outcome, ended, tail_of, rest_of, figure_of};

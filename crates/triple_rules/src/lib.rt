@@ -1,6 +1,8 @@
 // Rule 1, which asks of each triple where its points lie.
 //
 // Document 01, "The eight sheet rules", says what the call answers. The definitions are those of crate tables.
+#![tactic(auto)]
+
 ghost use Rattle.std.specs.Prelude.{◌≡◌};
 ghost use Rattle.tables.specs.Rules.{proper_triple, rule1};
 ghost use Rattle.segments.specs.Near.{Near};

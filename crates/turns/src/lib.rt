@@ -2,6 +2,8 @@
 //
 // Crate nets says in specs/Location what each call answers. The walk is the hot loop of the building: in each triangle that it enters it
 // asks for each of the three orientations once, and every coordinate is known to be near, so that they are computed in 32 bits.
+#![tactic(auto)]
+
 ghost use Rattle.std.specs.Prelude.{◌≡◌, cond, ◌*◌, ◌≤◌, ◌<◌, neg_ℤ, length};
 ghost use Rattle.algebra.specs.Tests.{posb};
 ghost use Rattle.plane.specs.Determinants.{orient};

@@ -2,6 +2,8 @@
 //
 // This is asked for three edges of each suspect, and most edges do not flip. So a mark and a missing neighbour are tried first, then the
 // circle sign, and the ranks only where that is zero. That the two new triangles are counterclockwise is not tried: in a tiling it follows.
+#![tactic(auto)]
+
 ghost use Rattle.std.specs.Prelude.{◌≡◌, ◌+◌, ◌*◌, ◌/◌, ◌≤◌, ◌<◌, min, max, length, get_or};
 ghost use Rattle.tables.specs.Data.{point};
 ghost use Rattle.tables.specs.Figures.{Figure};

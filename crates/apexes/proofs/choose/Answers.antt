@@ -1,13 +1,11 @@
-use borrow.Author.Rules.{rules}
 use mathlib.Core.Bool.{cond}
-use mathlib.Core.Logic.{⊎_elim}
 use mathlib.Core.Path.{◌≡◌}
 use Prim.Native.Nat.{ℕ, ◌-◌, ◌*◌, ◌≤◌, ◌<◌}
 use native.Mathlib.Omega.{arith}
 use Rattle.tables.specs.Data.{point}
 use Rattle.chains.specs.Areas.{chain_of}
 use Rattle.seams.proofs.Fitting.{corner_low, figure_near}
-use Rattle.apexes.proofs.Scanning.{Scan, scan_start, scan_more, scan_end}
+use Rattle.apexes.proofs.Scanning.{scan_start, scan_more, scan_end}
 use Rattle.apexes.proofs.choose.Goals as goal
 use Rattle.apexes.proofs.choose.Goals.{then-replaces, else-replaces}
 
@@ -39,12 +37,15 @@ replaces-requires c = let x = c.args in
     let low : (y : ℕ) → y ≤ x.j → y < 2 * x.n = λ y h. omega arith in
     let b = o.below in
     let h = o.high in
-    let ij = p.3 in record { near = figure_near p.0; a_bound = (
+    let ij = p.3 in record {
+      near = figure_near p.0;
+      a_bound = (
         corner_low x.n x.count x.work.now p.2 x.points.now p.1 c.corner-a.ensures (low x.i (omega arith)),
         corner_low x.n x.count x.work.now p.2 x.points.now p.1 c.corner-b.ensures jn,
         corner_low x.n x.count x.work.now p.2 x.points.now p.1 c.corner.ensures (low c.loop-x.k (omega arith)),
         corner_low x.n x.count x.work.now p.2 x.points.now p.1 c.corner-in-loop-x.ensures (low c.loop-x.x h),
-      ) }
+      );
+    }
 
 pub loop-x-preserved : goal.loop-x-preserved
 loop-x-preserved c = let x = c.args in

@@ -1,4 +1,3 @@
-use borrow.Author.Rules.{rules}
 use Rattle.apexes.proofs.Scanning.{pos_yes, pos_flat, pos_no}
 use Rattle.apexes.proofs.inside.Goals as goal
 

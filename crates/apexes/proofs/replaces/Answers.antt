@@ -1,4 +1,3 @@
-use borrow.Author.Rules.{rules}
 use Rattle.apexes.proofs.Scanning.{replaces_left, replaces_right, replaces_flat}
 use Rattle.apexes.proofs.replaces.Goals as goal
 

@@ -1,4 +1,3 @@
-use borrow.Author.Rules.{rules}
 use Rattle.tables.specs.Data.{clockwise}
 use Rattle.base_checks.proofs.is_clockwise.Goals as goal
 

@@ -1,4 +1,3 @@
-use borrow.Author.Rules.{rules}
 use Rattle.base_checks.proofs.Base.{right_first, right_second, right_third}
 use Rattle.base_checks.proofs.is_outside.Goals as goal
 

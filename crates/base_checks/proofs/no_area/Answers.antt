@@ -1,4 +1,3 @@
-use borrow.Author.Rules.{rules}
 use Rattle.base_checks.proofs.no_area.Goals as goal
 
 pub returns : goal.returns

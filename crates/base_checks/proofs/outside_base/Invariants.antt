@@ -1,7 +1,6 @@
 use Prim.Native.Nat.{◌-◌}
-use native.Mathlib.Omega.{arith}
 use Rattle.base_checks.specs.Base.{outside_of}
-use Rattle.pair_checks.proofs.Lowest.{Searched, start, more, found, ended}
+use Rattle.pair_checks.proofs.Lowest.{Searched}
 use Rattle.base_checks.proofs.outside_base.Given as goal
 
 abbrev pub invariant-loop-i : goal.invariant-loop-i

@@ -1,4 +1,3 @@
-use borrow.Author.Rules.{rules}
 use mathlib.Core.Bool.{true, false}
 use Rattle.base_checks.proofs.Base.{read_base}
 use Rattle.base_checks.proofs.outside_point.Goals as goal

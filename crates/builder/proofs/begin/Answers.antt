@@ -1,6 +1,5 @@
-use borrow.Author.Rules.{rules}
 use Rattle.tables.specs.Data.{clockwise}
-use mathlib.Core.Path.{◌≡◌, refl, sym, ap, ◌∙◌, subst}
+use mathlib.Core.Path.{sym, ◌∙◌}
 use native.Mathlib.Omega.{arith}
 use Rattle.tables.proofs.Table.{near_list}
 use Rattle.builder.proofs.Stages.{begun_turned, begun_plain}

@@ -1,10 +1,8 @@
-use borrow.Author.Rules.{rules}
-use mathlib.Core.Path.{◌≡◌, refl, sym, ap, ◌∙◌, subst}
-use Prim.Native.Nat.{ℕ, suc, ◌+◌, ◌-◌, ◌*◌, ◌≤◌, ◌<◌}
+use mathlib.Core.Path.{◌≡◌, refl, ◌∙◌, subst}
+use Prim.Native.Nat.{ℕ, suc, ◌+◌, ◌-◌}
 use native.Mathlib.Omega.{arith}
-use lib.ListN.{length, get_or}
 use Rattle.tables.specs.Data.{point_count}
-use Rattle.builder.specs.Stages.{Staged, Stage}
+use Rattle.builder.specs.Stages.{Stage}
 use Rattle.builder.proofs.Stages.{begun_stage, stage_done}
 use Rattle.builder.proofs.build.Goals as goal
 
@@ -12,8 +10,11 @@ pub rank_points-requires : goal.rank_points-requires
 rank_points-requires c = record { figure = c.requires.figure; points_in_bounds = c.requires.points_in_bounds }
 
 pub begin-requires : goal.begin-requires
-begin-requires c = record { figure = c.requires.figure; points_in_bounds = let e = c.rank_points.ensures.size in
-      let r = c.requires.points_in_bounds in omega arith }
+begin-requires c = record {
+  figure = c.requires.figure;
+  points_in_bounds = let e = c.rank_points.ensures.size in
+      let r = c.requires.points_in_bounds in omega arith;
+}
 
 pub loop-p-init : goal.loop-p-init
 loop-p-init c = (

@@ -1,11 +1,8 @@
-use borrow.Author.Rules.{rules}
-use mathlib.Core.Path.{◌≡◌, refl, sym, ap, ◌∙◌, subst}
-use Prim.Native.Nat.{ℕ, suc, ◌+◌, ◌-◌, ◌*◌, ◌≤◌, ◌<◌}
-use native.Mathlib.Omega.{arith}
+use mathlib.Core.Path.{◌≡◌}
+use Prim.Native.Nat.{ℕ, ◌-◌, ◌*◌, ◌≤◌}
 use lib.ListN.{length, get_or}
 use Rattle.tables.specs.Data.{point_count}
-use Rattle.builder.specs.Stages.{Staged, Stage}
-use Rattle.builder.proofs.Stages.{begun_stage, stage_done}
+use Rattle.builder.specs.Stages.{Staged}
 use Rattle.builder.proofs.build.Given as goal
 
 abbrev pub invariant-loop-p : goal.invariant-loop-p

@@ -1,5 +1,4 @@
 use Rattle.carving.proofs.Clears.{cleared}
-use borrow.Author.Rules.{rules}
 use Rattle.carving.proofs.clear_rows.Goals as goal
 
 pub returns : goal.returns

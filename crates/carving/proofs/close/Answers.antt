@@ -1,12 +1,9 @@
-use mathlib.Core.Path.{◌≡◌, refl, sym, ap, ◌∙◌, subst}
-use Prim.Native.Nat.{ℕ, ◌+◌, ◌-◌, ◌*◌, ◌≤◌, ◌<◌}
+use Prim.Native.Nat.{◌+◌, ◌-◌, ◌*◌}
 use native.Mathlib.Omega.{arith}
-use Rattle.tables.specs.Data.{point_count, point}
-use Rattle.chains.specs.Areas.{slot_of, Room}
+use Rattle.tables.specs.Data.{point}
 use Rattle.chains.specs.Fillings.{Filled}
 use Rattle.seams.proofs.Fitting.{can_move}
 use Rattle.carving.proofs.Closings.{wide_left, wide_right, sticks_left, sticks_right, root_low, shut}
-use borrow.Author.Rules.{rules}
 use Rattle.carving.proofs.close.Goals as goal
 
 pub fill-requires : goal.fill-requires

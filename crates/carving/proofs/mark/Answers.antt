@@ -1,11 +1,9 @@
-use mathlib.Core.Path.{◌≡◌, refl, sym, ap, ◌∙◌, subst}
-use mathlib.Core.List.{List}
-use Prim.Native.Nat.{ℕ, ◌+◌, ◌-◌, ◌*◌, ◌/◌, ◌%◌, ◌≤◌, ◌<◌}
+use mathlib.Core.Path.{◌≡◌, ap, ◌∙◌}
+use Prim.Native.Nat.{◌+◌, ◌-◌, ◌*◌, ◌/◌, ◌%◌}
 use native.Mathlib.Omega.{arith}
-use lib.ListN.{length, set, length-set}
+use lib.ListN.{length-set}
 use Rattle.chains.specs.Areas.{adj, mark_w}
 use Rattle.carving.proofs.Closings.{mark_none, mark_some}
-use borrow.Author.Rules.{rules}
 use Rattle.carving.proofs.mark.Goals as goal
 
 pub bounds-work-g : goal.bounds-work-g

@@ -1,19 +1,17 @@
-use mathlib.Core.Path.{◌≡◌, refl, sym, ap, ◌∙◌, subst}
+use mathlib.Core.Path.{refl, subst}
 use mathlib.Core.List.{List}
-use Prim.Native.Nat.{ℕ, ◌+◌, ◌-◌, ◌*◌, ◌≤◌, ◌<◌}
+use Prim.Native.Nat.{ℕ, ◌-◌}
 use native.Mathlib.Omega.{arith}
-use Rattle.tables.specs.Data.{point_count, point}
+use Rattle.tables.specs.Data.{point}
 use Rattle.nets.specs.Layout.{Kept}
 use Rattle.nets.proofs.Keeps.{kept_then}
-use Rattle.chains.specs.Areas.{Room}
 use Rattle.chains.specs.Recoveries.{begin_w, SidesW}
 use Rattle.chains.specs.Recoveries.StuckW.{on_way, at_apex}
 use Rattle.chains.specs.Walks.{Walks}
 use Rattle.chains.specs.declared.Walking.{Walking}
 use Rattle.chains.specs.declared.Walking.TheVariants.{Arrived, Stuck}
-use Rattle.corridors.specs.Collected.{Bounded, Collected}
+use Rattle.corridors.specs.Collected.{Bounded}
 use Rattle.carving.specs.Closing.{Shut}
-use borrow.Author.Rules.{rules}
 use Rattle.carving.proofs.recover.Goals as goal
 
 pub close-requires : goal.close-requires

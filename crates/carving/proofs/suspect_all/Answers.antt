@@ -1,7 +1,6 @@
-use mathlib.Core.Path.{◌≡◌, refl, sym, ap, ◌∙◌, subst}
-use Prim.Native.Nat.{ℕ, ◌+◌, ◌-◌, ◌*◌, ◌≤◌, ◌<◌}
+use mathlib.Core.Path.{◌≡◌, ◌∙◌, subst}
+use Prim.Native.Nat.{ℕ, ◌-◌, ◌<◌}
 use native.Mathlib.Omega.{arith}
-use lib.ListN.{length}
 use Rattle.chains.specs.Areas.{slot_of}
 use Rattle.carving.proofs.Pushes.{Pushing, pushing_none, aside_slot, pushing_more, suspected}
 use Rattle.carving.proofs.suspect_all.Goals as goal

@@ -1,9 +1,5 @@
-use mathlib.Core.Path.{◌≡◌, refl, sym, ap, ◌∙◌, subst}
-use Prim.Native.Nat.{ℕ, ◌+◌, ◌-◌, ◌*◌, ◌≤◌, ◌<◌}
-use native.Mathlib.Omega.{arith}
-use lib.ListN.{length}
-use Rattle.chains.specs.Areas.{slot_of}
-use Rattle.carving.proofs.Pushes.{Pushing, pushing_none, aside_slot, pushing_more, suspected}
+use Prim.Native.Nat.{◌-◌, ◌≤◌}
+use Rattle.carving.proofs.Pushes.{Pushing}
 use Rattle.carving.proofs.suspect_all.Given as goal
 
 abbrev pub invariant-loop-m : goal.invariant-loop-m

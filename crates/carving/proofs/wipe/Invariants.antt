@@ -1,9 +1,5 @@
-use mathlib.Core.Path.{◌≡◌, refl, sym, ap, ◌∙◌, subst}
-use Prim.Native.Nat.{ℕ, ◌+◌, ◌-◌, ◌*◌, ◌≤◌, ◌<◌}
-use native.Mathlib.Omega.{arith}
-use lib.ListN.{length, length-set}
+use Prim.Native.Nat.{◌-◌, ◌≤◌}
 use Rattle.carving.specs.Clearing.{Wiped}
-use Rattle.carving.proofs.Clears.{wiped_none, wiped_more}
 use Rattle.carving.proofs.wipe.Given as goal
 
 abbrev pub invariant-loop-i : goal.invariant-loop-i

@@ -1,9 +1,5 @@
-use mathlib.Core.Path.{◌≡◌, refl, sym, ap, ◌∙◌, subst}
-use Prim.Native.Nat.{ℕ, ◌+◌, ◌-◌, ◌*◌, ◌≤◌, ◌<◌}
-use native.Mathlib.Omega.{arith}
-use lib.ListN.{length}
+use Prim.Native.Nat.{◌-◌, ◌≤◌}
 use Rattle.carving.specs.Clearing.{WipedRows}
-use Rattle.carving.proofs.Clears.{rows_none, rows_more}
 use Rattle.carving.proofs.wipe_rows.Given as goal
 
 abbrev pub invariant-loop-s : goal.invariant-loop-s

@@ -9,8 +9,7 @@ use lib.ListN.{length}
 use Rattle.tables.specs.Answers.{Paper, yes, ofRefusal, ofChecked}
 use Rattle.tables.specs.Data.{point_count}
 use Rattle.tables.specs.Refusals.{rows}
-use Rattle.tables.specs.Verdicts.{refusals, verdict, rules, left_work, cleared}
-use Rattle.tables.specs.declared.Refusal.{Refusal}
+use Rattle.tables.specs.Verdicts.{refusals, verdict, left_work, cleared}
 use Rattle.tables.proofs.Table.{Silent, silent, points_least, points_most, coordinates, pairs_length, end_a_low, end_b_low, not_odd}
 use Rattle.rooms.proofs.Rooms.{short_is, room_is}
 use Rattle.checker.proofs.Parts.{verdict_rules, verdict_refusal, rules_leave, cleared_size, cleared_zeros, cleared_thrice, ends_of, whole_of}

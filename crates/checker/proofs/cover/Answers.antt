@@ -1,8 +1,6 @@
-use borrow.Author.Rules.{rules}
 use mathlib.Core.Path.{◌≡◌, refl, sym, ◌∙◌}
-use mathlib.Core.Bool.{Bool, true, false}
-use Rattle.tables.specs.Rules.{rule3, rule4, rule5}
-use Rattle.list_rules.proofs.Once.{not_true, not_false}
+use mathlib.Core.Bool.{true, false}
+use Rattle.tables.specs.Rules.{rule3, rule4}
 use Rattle.checker.proofs.Parts.{rule_no, rule_so}
 use Rattle.checker.proofs.cover.Goals as goal
 use Rattle.checker.proofs.cover.Goals.{Else-not-edges_met, Else-not-points_met}

@@ -1,14 +1,11 @@
-use borrow.Author.Rules.{rules}
-use mathlib.Core.Path.{◌≡◌, refl, sym, ap, ◌∙◌}
+use mathlib.Core.Path.{◌≡◌, refl, sym, ◌∙◌}
 use mathlib.Core.Bool.{Bool, true, false}
-use Prim.Native.Nat.{ℕ, ◌+◌, ◌*◌, ◌≤◌, ◌<◌}
+use Prim.Native.Nat.{ℕ, ◌+◌, ◌*◌}
 use native.Mathlib.Omega.{arith}
-use lib.ListN.{length, get_or}
 use Rattle.tables.specs.Data.{point_count}
 use Rattle.tables.specs.Rules.{rule6, rule7}
 use Rattle.rooms.specs.Rest.{Rest}
 use Rattle.list_rules.specs.Listed.{Listed, Room}
-use Rattle.list_rules.proofs.Once.{not_true, not_false}
 use Rattle.edge_rules.proofs.Rule7.{by_marks}
 use Rattle.checker.proofs.Parts.{rule_no, rule_so}
 use Rattle.checker.proofs.lines.Goals as goal
@@ -59,17 +56,17 @@ returns-then-not-edges_stay c = (rule_so 6 _ (kept (goal.at.returns-then-not-edg
 
 pub returns-then-house_order : goal.returns-then-house_order
 returns-then-house_order c = (
-      rule_so 6 _ (kept (goal.at.returns-then-house_order c).Else-not-pairs_met) (rule_so 7 _ (settled (goal.at.returns-then-house_order c).After-edges_stay true (c.if-not-edges_stay.false))
-          (rule_so 8 _ (sym c.house_order.ensures ∙ c.if-house_order.true) refl)),
-      rest (goal.at.returns-then-house_order c).After-pairs_met,
-    )
+  rule_so 6 _ (kept (goal.at.returns-then-house_order c).Else-not-pairs_met) (rule_so 7 _ (settled (goal.at.returns-then-house_order c).After-edges_stay true (c.if-not-edges_stay.false))
+      (rule_so 8 _ (sym c.house_order.ensures ∙ c.if-house_order.true) refl)),
+  rest (goal.at.returns-then-house_order c).After-pairs_met,
+)
 
 pub returns-else-house_order : goal.returns-else-house_order
 returns-else-house_order c = (
-      rule_so 6 _ (kept (goal.at.returns-else-house_order c).Else-not-pairs_met) (rule_so 7 _ (settled (goal.at.returns-else-house_order c).After-edges_stay true (c.if-not-edges_stay.false))
-          (rule_no 8 _ (sym c.house_order.ensures ∙ c.if-house_order.false))),
-      rest (goal.at.returns-else-house_order c).After-pairs_met,
-    )
+  rule_so 6 _ (kept (goal.at.returns-else-house_order c).Else-not-pairs_met) (rule_so 7 _ (settled (goal.at.returns-else-house_order c).After-edges_stay true (c.if-not-edges_stay.false))
+      (rule_no 8 _ (sym c.house_order.ensures ∙ c.if-house_order.false))),
+  rest (goal.at.returns-else-house_order c).After-pairs_met,
+)
 
 pub pairs_met-requires : goal.pairs_met-requires
 pairs_met-requires c = let p = c.requires.1 in (p.listed, p.room, p.once, p.ends, p.blank)

@@ -1,18 +1,14 @@
-use borrow.Author.Rules.{rules}
-use mathlib.Core.Path.{◌≡◌, refl, sym, ap, ◌∙◌, subst}
-use mathlib.Core.Bool.{Bool, true, false}
-use Prim.Native.Nat.{ℕ, ◌+◌, ◌*◌, ◌≤◌, ◌<◌}
+use mathlib.Core.Path.{◌≡◌, refl, sym, ◌∙◌}
+use mathlib.Core.Bool.{true, false}
+use Prim.Native.Nat.{ℕ, ◌*◌, ◌≤◌}
 use native.Mathlib.Omega.{arith}
 use lib.ListN.{length, get_or}
 use Rattle.tables.specs.Answers.{yes, rule}
 use Rattle.tables.specs.Data.{point_count}
 use Rattle.tables.specs.Rules.{rule1, rule2}
-use Rattle.rooms.specs.Rest.{Rest}
 use Rattle.edges.specs.Index.{Fits}
 use Rattle.list_rules.specs.Listed.{Listed}
-use Rattle.list_rules.proofs.Once.{not_true, not_false}
-use Rattle.checker.specs.Parts.{Indexing}
-use Rattle.checker.proofs.Parts.{corners_of, few_of, length_of, index_none, rule_no, rule_so}
+use Rattle.checker.proofs.Parts.{corners_of, few_of, index_none, rule_no, rule_so}
 use Rattle.checker.proofs.shape.Goals as goal
 use Rattle.checker.proofs.shape.Goals.{After-build, Else-not-triples_proper}
 
@@ -21,12 +17,12 @@ no f e = absurd (f e)
 
 pub returns-then-not-triples_proper : goal.returns-then-not-triples_proper
 returns-then-not-triples_proper c = record {
-      answer = rule_no 1 (rule 2 (rule2 c.args.list.now) yes) (sym c.triples_proper.ensures ∙ c.if-not-triples_proper.true);
-      listed = no (λ e. let b : ⊥ = omega arith in b);
-      few = no (λ e. let b : ⊥ = omega arith in b);
-      size = refl;
-      rest = λ p l. refl;
-    }
+  answer = rule_no 1 (rule 2 (rule2 c.args.list.now) yes) (sym c.triples_proper.ensures ∙ c.if-not-triples_proper.true);
+  listed = no (λ e. let b : ⊥ = omega arith in b);
+  few = no (λ e. let b : ⊥ = omega arith in b);
+  size = refl;
+  rest = λ p l. refl;
+}
 
 -- rule 1 holds
 holds : (c : Else-not-triples_proper) → rule1 c.args.points.now c.args.list.now ≡ true
@@ -45,31 +41,31 @@ build-requires c = (corners_of c.args.points.now c.args.list.now c.requires.0.wh
 listed : (c : After-build) → Listed (point_count c.args.points.now) c.args.list.now c.build.new.work
 listed c = record {
   whole = c.requires.0.whole;
-  corners = corners_of c.args.points.now c.args.list.now c.requires.0.whole (holds (record { before = c.before.before.before; type_inv = record { work = c.slice_known-1.given; list = c.shared_slice_known-1.given }; }));
-  fits = record { room = let a = few (record { before = c.before.before.before; type_inv = record { work = c.slice_known-1.given; list = c.shared_slice_known-1.given }; }) in let r = c.requires.0.room in let z = c.build.ensures.1.size in omega arith; few = (fits (record { before = c.before.before.before; type_inv = record { work = c.slice_known-1.given; list = c.shared_slice_known-1.given }; })).few };
+  corners = corners_of c.args.points.now c.args.list.now c.requires.0.whole (holds (record { before = c.before.before.before; type_inv = record { work = c.slice_known-1.given; list = c.shared_slice_known-1.given } }));
+  fits = record { room = let a = few (record { before = c.before.before.before; type_inv = record { work = c.slice_known-1.given; list = c.shared_slice_known-1.given } }) in let r = c.requires.0.room in let z = c.build.ensures.1.size in omega arith; few = (fits (record { before = c.before.before.before; type_inv = record { work = c.slice_known-1.given; list = c.shared_slice_known-1.given } })).few };
   indexed = c.build.ensures.0;
 }
 
 rest : (c : After-build) → (p : ℕ) → 7 * point_count c.args.points.now ≤ p → get_or c.build.new.work p 0 ≡ get_or c.args.work.now p 0
-rest c p l = c.build.ensures.1.same p (let a = few (record { before = c.before.before.before; type_inv = record { work = c.slice_known-1.given; list = c.shared_slice_known-1.given }; }) in omega arith)
+rest c p l = c.build.ensures.1.same p (let a = few (record { before = c.before.before.before; type_inv = record { work = c.slice_known-1.given; list = c.shared_slice_known-1.given } }) in omega arith)
 
 pub edges_once-requires : goal.edges_once-requires
 edges_once-requires c = listed (goal.at.edges_once-requires c).After-build
 
 pub returns-then-edges_once : goal.returns-then-edges_once
 returns-then-edges_once c = record {
-      answer = rule_so 1 _ (holds (goal.at.returns-then-edges_once c).Else-not-triples_proper) (rule_so 2 _ (sym c.edges_once.ensures ∙ c.if-edges_once.true) refl);
-      listed = λ q. listed (goal.at.returns-then-edges_once c).After-build;
-      few = λ q. few (goal.at.returns-then-edges_once c).Else-not-triples_proper;
-      size = c.build.ensures.1.size;
-      rest = rest (goal.at.returns-then-edges_once c).After-build;
-    }
+  answer = rule_so 1 _ (holds (goal.at.returns-then-edges_once c).Else-not-triples_proper) (rule_so 2 _ (sym c.edges_once.ensures ∙ c.if-edges_once.true) refl);
+  listed = λ q. listed (goal.at.returns-then-edges_once c).After-build;
+  few = λ q. few (goal.at.returns-then-edges_once c).Else-not-triples_proper;
+  size = c.build.ensures.1.size;
+  rest = rest (goal.at.returns-then-edges_once c).After-build;
+}
 
 pub returns-else-edges_once : goal.returns-else-edges_once
 returns-else-edges_once c = record {
-      answer = rule_so 1 _ (holds (goal.at.returns-else-edges_once c).Else-not-triples_proper) (rule_no 2 _ (sym c.edges_once.ensures ∙ c.if-edges_once.false));
-      listed = no (λ q. let k : ⊥ = omega arith in k);
-      few = no (λ q. let k : ⊥ = omega arith in k);
-      size = c.build.ensures.1.size;
-      rest = rest (goal.at.returns-else-edges_once c).After-build;
-    }
+  answer = rule_so 1 _ (holds (goal.at.returns-else-edges_once c).Else-not-triples_proper) (rule_no 2 _ (sym c.edges_once.ensures ∙ c.if-edges_once.false));
+  listed = no (λ q. let k : ⊥ = omega arith in k);
+  few = no (λ q. let k : ⊥ = omega arith in k);
+  size = c.build.ensures.1.size;
+  rest = rest (goal.at.returns-else-edges_once c).After-build;
+}

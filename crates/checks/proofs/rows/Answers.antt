@@ -1,4 +1,3 @@
-use borrow.Author.Rules.{rules}
 use borrow.Author.Tests.{eq-eqb, ne_eqb, lt-ltb, le-ltb}
 use mathlib.Core.Bool.{true}
 use mathlib.Core.Path.{◌≡◌, refl, sym, ap, ◌∙◌}
@@ -63,7 +62,7 @@ after-2 : (c : Else-pairs-gt-MOST_PAIRS) →
     let a = c.args in
     rows a.odd a.short a.points.now a.pairs.now ≡ row 3 a.short (rows4to10 a.points.now a.pairs.now)
 after-2 c =
-    rw (after-1 (record { before = c.before.before.before.before; type_inv = record { work = c.slice_known-1.given; pairs = c.shared_slice_known-1.given }; }), le-ltb _ _ c.if-points-lt3.false, le-ltb _ _ c.if-points-gt-MOST_POINTS.false, le-ltb _ _ c.if-pairs-gt-MOST_PAIRS.false)
+    rw (after-1 (record { before = c.before.before.before.before; type_inv = record { work = c.slice_known-1.given; pairs = c.shared_slice_known-1.given } }), le-ltb _ _ c.if-points-lt3.false, le-ltb _ _ c.if-points-gt-MOST_POINTS.false, le-ltb _ _ c.if-pairs-gt-MOST_PAIRS.false)
 
 pub returns-then-short : goal.returns-then-short
 returns-then-short c = let the_clauses = early (goal.at.returns-then-short c).Start 3 (after-2 (goal.at.returns-then-short c).Else-pairs-gt-MOST_PAIRS ∙ row_stops 3 _ c.if-short.true) refl in record { answer = the_clauses.0; work = the_clauses.1 }
@@ -73,7 +72,7 @@ abbrev n : (c : Else-short) → ℕ
 n c = point_count c.args.points.now
 
 after-3 : (c : Else-short) → rows c.args.odd c.args.short c.args.points.now c.args.pairs.now ≡ rows4to10 c.args.points.now c.args.pairs.now
-after-3 c = after-2 (record { before = c.before.before; type_inv = record { work = c.slice_known-1.given; pairs = c.shared_slice_known-1.given }; }) ∙ row_passes 3 _ c.if-short.false
+after-3 c = after-2 (record { before = c.before.before; type_inv = record { work = c.slice_known-1.given; pairs = c.shared_slice_known-1.given } }) ∙ row_passes 3 _ c.if-short.false
 
 room : (c : Else-short) → 64 * point_count c.args.points.now ≤ length c.args.work.now
 room c = c.requires c.if-short.false
@@ -91,5 +90,8 @@ pub clear-requires : goal.clear-requires
 clear-requires c = rw c.rows_4_to_10-answer.ensures.rest.size (room (goal.at.clear-requires c).Else-short)
 
 pub returns : goal.returns
-returns c = let w = c.args.work.now in record { answer = c.rows_4_to_10-answer.ensures.result_value ∙ sym (after-3 (goal.at.returns c).Else-short); work = c.clear.ensures ∙ cleared_over (64 * n (goal.at.returns c).Else-short) w _ c.rows_4_to_10-answer.ensures.rest
-          ∙ sym (ap (λ (p : Paper). left_work p (n (goal.at.returns c).Else-short) w) (after-3 (goal.at.returns c).Else-short) ∙ rows_leave c.args.points.now c.args.pairs.now (n (goal.at.returns c).Else-short) w) }
+returns c = let w = c.args.work.now in record {
+  answer = c.rows_4_to_10-answer.ensures.result_value ∙ sym (after-3 (goal.at.returns c).Else-short);
+  work = c.clear.ensures ∙ cleared_over (64 * n (goal.at.returns c).Else-short) w _ c.rows_4_to_10-answer.ensures.rest
+      ∙ sym (ap (λ (p : Paper). left_work p (n (goal.at.returns c).Else-short) w) (after-3 (goal.at.returns c).Else-short) ∙ rows_leave c.args.points.now c.args.pairs.now (n (goal.at.returns c).Else-short) w);
+}

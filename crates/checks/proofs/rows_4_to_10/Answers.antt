@@ -31,16 +31,22 @@ none-5 : (c : Else-no_area) → no_area c.args.points.now ≡ false
 none-5 c = sym c.no_area.ensures ∙ c.if-no_area.false
 
 pub returns-in-At-outside : goal.returns-in-At-outside
-returns-in-At-outside c = record { result_value = sym (row_at_passes 4 _ (none-4 (goal.at.returns-in-At-outside c).In_default) ∙ row_passes 5 _ (none-5 (goal.at.returns-in-At-outside c).Else-no_area)
-          ∙ row_at_stops 6 _ (sym c.outside_point-outside.ensures ∙ c.in-At-outside.is)); rest = rest_none _ _ }
+returns-in-At-outside c = record {
+  result_value = sym (row_at_passes 4 _ (none-4 (goal.at.returns-in-At-outside c).In_default) ∙ row_passes 5 _ (none-5 (goal.at.returns-in-At-outside c).Else-no_area)
+      ∙ row_at_stops 6 _ (sym c.outside_point-outside.ensures ∙ c.in-At-outside.is));
+  rest = rest_none _ _;
+}
 
 -- row 6 is passed
 none-6 : (c : In_default-outside) → lowest (point_count c.args.points.now) (outside c.args.points.now) ≡ Nowhere
 none-6 c = sym c.outside_point-outside.ensures ∙ c.in_default-outside.is
 
 pub returns-in-At-equal : goal.returns-in-At-equal
-returns-in-At-equal c = record { result_value = sym (row_at_passes 4 _ (none-4 (goal.at.returns-in-At-equal c).In_default) ∙ row_passes 5 _ (none-5 (goal.at.returns-in-At-equal c).Else-no_area)
-          ∙ row_at_passes 6 _ (none-6 (goal.at.returns-in-At-equal c).In_default-outside) ∙ row_at_stops 7 _ (sym c.equal_point-equal.ensures ∙ c.in-At-equal.is)); rest = rest_none _ _ }
+returns-in-At-equal c = record {
+  result_value = sym (row_at_passes 4 _ (none-4 (goal.at.returns-in-At-equal c).In_default) ∙ row_passes 5 _ (none-5 (goal.at.returns-in-At-equal c).Else-no_area)
+      ∙ row_at_passes 6 _ (none-6 (goal.at.returns-in-At-equal c).In_default-outside) ∙ row_at_stops 7 _ (sym c.equal_point-equal.ensures ∙ c.in-At-equal.is));
+  rest = rest_none _ _;
+}
 
 -- row 7 is passed
 abbrev n : (c : In_default-equal) → ℕ
@@ -64,8 +70,11 @@ pub rows_8_to_10-requires : goal.rows_8_to_10-requires
 rows_8_to_10-requires c = record { figure = figure (goal.at.rows_8_to_10-requires c).In_default-equal; pairs_len = (c.requires.points_len.1, c.requires.bound.2) }
 
 pub returns : goal.returns
-returns c = record { result_value = c.rows_8_to_10.ensures.result_value ∙ sym (row_at_passes 4 _ (none-4 (goal.at.returns c).In_default)
-          ∙ row_passes 5 _ (none-5 (goal.at.returns c).Else-no_area) ∙ row_at_passes 6 _ (none-6 (goal.at.returns c).In_default-outside) ∙ row_at_passes 7 _ (none-7 (goal.at.returns c).In_default-equal)); rest = c.rows_8_to_10.ensures.rest }
+returns c = record {
+  result_value = c.rows_8_to_10.ensures.result_value ∙ sym (row_at_passes 4 _ (none-4 (goal.at.returns c).In_default)
+      ∙ row_passes 5 _ (none-5 (goal.at.returns c).Else-no_area) ∙ row_at_passes 6 _ (none-6 (goal.at.returns c).In_default-outside) ∙ row_at_passes 7 _ (none-7 (goal.at.returns c).In_default-equal));
+  rest = c.rows_8_to_10.ensures.rest;
+}
 
 pub no_area-requires : goal.no_area-requires
 no_area-requires c = record { near = near (goal.at.no_area-requires c).In_default; bound = search rules }

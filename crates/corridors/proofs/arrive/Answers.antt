@@ -1,13 +1,12 @@
-use mathlib.Core.Path.{◌≡◌, refl, sym, ap, ◌∙◌, subst}
+use mathlib.Core.Path.{sym, ap, ◌∙◌, subst}
 use mathlib.Core.List.{List}
-use Prim.Native.Nat.{ℕ, ◌+◌, ◌-◌, ◌*◌, ◌/◌, ◌%◌, ◌≤◌, ◌<◌}
+use Prim.Native.Nat.{ℕ, ◌+◌, ◌-◌, ◌*◌, ◌<◌}
 use native.Mathlib.Omega.{arith}
 use Rattle.nets.specs.Nets.{prv}
-use Rattle.chains.specs.Walks.{enter_w, left_w, right_w, arrive_w}
+use Rattle.chains.specs.Walks.{right_w, arrive_w}
 use Rattle.corridors.specs.Collected.{Area}
 use Rattle.corridors.proofs.Looks.{prv_in}
 use Rattle.corridors.proofs.Turns.{enter_area}
-use borrow.Author.Rules.{rules}
 use Rattle.corridors.proofs.arrive.Goals as goal
 
 pub turn_right-requires : goal.turn_right-requires

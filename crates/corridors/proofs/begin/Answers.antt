@@ -1,18 +1,14 @@
-use mathlib.Core.Path.{◌≡◌, refl, sym, ap, ◌∙◌, subst}
-use mathlib.Core.List.{List}
-use Prim.Native.Nat.{ℕ, ◌+◌, ◌-◌, ◌*◌, ◌/◌, ◌%◌, ◌≤◌, ◌<◌}
+use mathlib.Core.Path.{sym, ◌∙◌, subst}
+use Prim.Native.Nat.{◌-◌, ◌<◌}
 use native.Mathlib.Omega.{arith}
 use Rattle.plane.specs.Halfedges.{nxt}
 use Rattle.nets.specs.Layout.{Kept}
-use Rattle.nets.specs.Nets.{prv}
 use Rattle.nets.proofs.Slot.{nxt_in}
-use Rattle.chains.specs.Areas.{org, Room}
-use Rattle.chains.specs.Recoveries.{begin_w}
+use Rattle.chains.specs.Areas.{Room}
 use Rattle.chains.proofs.Entering.{begin_room, begin_kept}
 use Rattle.corridors.specs.Collected.{Area}
 use Rattle.corridors.proofs.Looks.{prv_in}
 use Rattle.corridors.proofs.Turns.{room_area, enter_area, begun}
-use borrow.Author.Rules.{rules}
 use Rattle.corridors.proofs.begin.Goals as goal
 
 pub start-requires : goal.start-requires

@@ -1,18 +1,16 @@
-use mathlib.Core.Path.{◌≡◌, refl, sym, ap, ◌∙◌, subst}
-use mathlib.Core.List.{List}
-use Prim.Native.Nat.{ℕ, ◌+◌, ◌-◌, ◌*◌, ◌/◌, ◌%◌, ◌≤◌, ◌<◌}
+use mathlib.Core.Path.{◌≡◌, sym, ap, ◌∙◌, subst}
+use Prim.Native.Nat.{ℕ, ◌+◌, ◌-◌, ◌≤◌, ◌<◌}
 use native.Mathlib.Omega.{arith}
-use borrow.Author.Rules.{rules}
-use Rattle.tables.specs.Data.{point_count, point}
+use Rattle.tables.specs.Data.{point}
 use Rattle.nets.specs.Layout.{Kept}
 use Rattle.nets.proofs.Keeps.{kept_then}
 use Rattle.chains.specs.Areas.{Room}
-use Rattle.chains.specs.Walks.{look_at, left_w, right_w, Walks}
+use Rattle.chains.specs.Walks.{look_at, left_w, right_w}
 use Rattle.chains.specs.Walks.Walks.{far, stop, last}
 use Rattle.chains.specs.declared.Beyond.TheVariants.{Left, Right, Last, Stuck}
 use Rattle.chains.proofs.Entering.{arrive_room, arrive_kept}
 use Rattle.corridors.proofs.Looks.{left_low, right_low, last_low}
-use Rattle.corridors.proofs.Turns.{room_area, Live, live_start, fits, some, live_left, live_right}
+use Rattle.corridors.proofs.Turns.{room_area, live_start, fits, some, live_left, live_right}
 use Rattle.corridors.proofs.collect.Goals as goal
 
 pub loop-l-init : goal.loop-l-init

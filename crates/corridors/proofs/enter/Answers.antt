@@ -1,11 +1,10 @@
-use mathlib.Core.Path.{◌≡◌, refl, sym, ap, ◌∙◌}
-use Prim.Native.Nat.{ℕ, ◌+◌, ◌-◌, ◌*◌, ◌/◌, ◌%◌, ◌≤◌, ◌<◌}
+use mathlib.Core.Path.{◌∙◌}
+use Prim.Native.Nat.{◌-◌, ◌/◌}
 use native.Mathlib.Omega.{arith}
-use lib.ListN.{length, get_or, set, length-set}
-use Rattle.chains.specs.Areas.{adj, chain_cell, slot_cell}
+use lib.ListN.{length-set}
+use Rattle.chains.specs.Areas.{slot_cell}
 use Rattle.chains.specs.Walks.{enter_w}
 use Rattle.corridors.proofs.Turns.{enter_fits}
-use borrow.Author.Rules.{rules}
 use Rattle.corridors.proofs.enter.Goals as goal
 
 pub move_to-requires : goal.move_to-requires

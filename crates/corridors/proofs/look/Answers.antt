@@ -1,13 +1,12 @@
-use mathlib.Core.Path.{◌≡◌, refl, sym, ap, ◌∙◌, subst}
-use Prim.Native.Nat.{ℕ, ◌+◌, ◌-◌, ◌*◌, ◌/◌, ◌%◌, ◌≤◌, ◌<◌}
+use mathlib.Core.Path.{◌≡◌, sym, ap, ◌∙◌, subst}
+use Prim.Native.Nat.{ℕ, ◌-◌, ◌*◌, ◌≤◌, ◌<◌}
 use native.Mathlib.Omega.{arith}
 use Rattle.tables.specs.Data.{point_count, point}
 use Rattle.nets.specs.Layout.{cell}
 use Rattle.nets.specs.Nets.{prv}
-use Rattle.chains.specs.Areas.{org, adj, con}
+use Rattle.chains.specs.Areas.{org, adj}
 use Rattle.chains.specs.Walks.{met}
 use Rattle.corridors.proofs.Looks.{prv_in, look_none, look_marked, look_twice, look_met}
-use borrow.Author.Rules.{rules}
 use Rattle.corridors.proofs.look.Goals as goal
 
 pub returns-then-m-eq0 : goal.returns-then-m-eq0

@@ -1,13 +1,11 @@
-use mathlib.Core.Bool.{Bool, true, false}
-use mathlib.Core.Path.{◌≡◌, refl, sym, ap, ◌∙◌}
-use native.Mathlib.Omega.{arith}
-use lib.IntN.{ℤ, neg_ℤ}
+use mathlib.Core.Bool.{true, false}
+use mathlib.Core.Path.{◌≡◌, sym, ◌∙◌}
+use lib.IntN.{neg_ℤ}
 use Rattle.algebra.specs.Tests.{posb}
 use Rattle.plane.specs.Determinants.{orient}
-use Rattle.tables.specs.Data.{point_count, point}
+use Rattle.tables.specs.Data.{point}
 use Rattle.tables.proofs.Table.{near_list}
 use Rattle.corridors.proofs.Looks.{met_last, met_left, met_right, met_line}
-use borrow.Author.Rules.{rules}
 use Rattle.corridors.proofs.meet.Goals as goal
 
 pub returns-then-k-b : goal.returns-then-k-b

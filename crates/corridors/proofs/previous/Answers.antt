@@ -1,6 +1,5 @@
 use native.Mathlib.Omega.{arith}
 use Rattle.plane.specs.Halfedges.{nxt}
-use borrow.Author.Rules.{rules}
 use Rattle.corridors.proofs.previous.Goals as goal
 
 pub returns-then-h-eq0 : goal.returns-then-h-eq0

@@ -1,9 +1,7 @@
-use native.Mathlib.Omega.{arith}
-use mathlib.Core.Path.{◌≡◌, refl, sym, ap, ◌∙◌}
+use mathlib.Core.Path.{sym, ap}
 use Prim.Native.Nat.{ℕ}
 use lib.ListN.{get_or}
 use Rattle.corridors.proofs.Looks.{cell_start}
-use borrow.Author.Rules.{rules}
 use Rattle.corridors.proofs.start.Goals as goal
 
 pub returns : goal.returns

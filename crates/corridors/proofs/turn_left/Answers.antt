@@ -1,10 +1,9 @@
-use mathlib.Core.Path.{◌≡◌, refl, sym, ap, ◌∙◌, subst}
-use Prim.Native.Nat.{ℕ, ◌+◌, ◌-◌, ◌*◌, ◌/◌, ◌%◌, ◌≤◌, ◌<◌}
+use mathlib.Core.Path.{ap, ◌∙◌}
+use Prim.Native.Nat.{ℕ, ◌+◌, ◌-◌, ◌*◌, ◌<◌}
 use native.Mathlib.Omega.{arith}
 use Rattle.nets.specs.Nets.{prv}
 use Rattle.chains.specs.Walks.{enter_w}
 use Rattle.corridors.proofs.Looks.{prv_in}
-use borrow.Author.Rules.{rules}
 use Rattle.corridors.proofs.turn_left.Goals as goal
 
 pub enter-requires : goal.enter-requires
@@ -16,7 +15,7 @@ enter-requires c = let s = c.args in
 
 pub returns : goal.returns
 returns c = let s = c.args in (
-      c.next.ensures,
-      c.enter.ensures
-          ∙ ap (λ (u : ℕ). enter_w s.n s.work.now (s.l + s.r - 1) s.y u s.l (s.l + 1) s.c) c.previous-o.ensures,
-    )
+  c.next.ensures,
+  c.enter.ensures
+      ∙ ap (λ (u : ℕ). enter_w s.n s.work.now (s.l + s.r - 1) s.y u s.l (s.l + 1) s.c) c.previous-o.ensures,
+)

@@ -1,10 +1,9 @@
-use mathlib.Core.Path.{◌≡◌, refl, sym, ap, ◌∙◌, subst}
-use Prim.Native.Nat.{ℕ, ◌+◌, ◌-◌, ◌*◌, ◌/◌, ◌%◌, ◌≤◌, ◌<◌}
+use mathlib.Core.Path.{ap, ◌∙◌}
+use Prim.Native.Nat.{ℕ, ◌+◌, ◌-◌, ◌*◌, ◌<◌}
 use native.Mathlib.Omega.{arith}
 use Rattle.plane.specs.Halfedges.{nxt}
 use Rattle.nets.proofs.Slot.{nxt_in}
 use Rattle.chains.specs.Walks.{enter_w}
-use borrow.Author.Rules.{rules}
 use Rattle.corridors.proofs.turn_right.Goals as goal
 
 pub enter-requires : goal.enter-requires
@@ -16,8 +15,8 @@ enter-requires c = let s = c.args in
 
 pub returns : goal.returns
 returns c = let s = c.args in (
-      c.previous.ensures,
-      c.enter.ensures
-          ∙ ap (λ (u : ℕ). enter_w s.n s.work.now (s.l + s.r - 1) s.y u (2 * s.n - 2 - s.r) (2 * s.n - 2 - s.r) s.c)
-          c.next-o.ensures,
-    )
+  c.previous.ensures,
+  c.enter.ensures
+      ∙ ap (λ (u : ℕ). enter_w s.n s.work.now (s.l + s.r - 1) s.y u (2 * s.n - 2 - s.r) (2 * s.n - 2 - s.r) s.c)
+      c.next-o.ensures,
+)

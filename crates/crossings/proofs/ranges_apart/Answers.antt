@@ -1,4 +1,3 @@
-use borrow.Author.Rules.{rules}
 use mathlib.Core.Path.{◌≡◌, ap, ◌∙◌}
 use mathlib.Core.List.{List, [], ◌∷◌}
 use Prim.Native.Nat.{ℕ}
@@ -35,11 +34,10 @@ abbrev σ : After-upper-2 → List ℤ
 σ c = c.lower.result ∷ c.upper.result ∷ c.lower-2.result ∷ c.upper-2.result ∷ []
 
 near : (c : After-upper-2) → Small limit (σ c)
-near c =
-    (
-      lower_near (ρ c.before.before.before.before) c.requires 2 3 (from-c-d c.before.before.before),
-      (upper_near (ρ c.before.before.before.before) c.requires 0 1 (to-a-b c.before.before), (lower_near (ρ c.before.before.before.before) c.requires 0 1 (from-a-b c.before), (upper_near (ρ c.before.before.before.before) c.requires 2 3 (to-c-d c), tt))),
-    )
+near c = (
+  lower_near (ρ c.before.before.before.before) c.requires 2 3 (from-c-d c.before.before.before),
+  (upper_near (ρ c.before.before.before.before) c.requires 0 1 (to-a-b c.before.before), (lower_near (ρ c.before.before.before.before) c.requires 0 1 (from-a-b c.before), (upper_near (ρ c.before.before.before.before) c.requires 2 3 (to-c-d c), tt))),
+)
 
 abbrev dif : ℕ → ℕ → Code
 dif i j = minus w32 (arg i) (arg j)

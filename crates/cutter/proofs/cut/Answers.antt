@@ -1,4 +1,3 @@
-use borrow.Author.Rules.{rules}
 use mathlib.Core.Bool.{Bool, false}
 use mathlib.Core.List.{List}
 use mathlib.Core.Path.{◌≡◌, sym, ap, ◌∙◌}
@@ -47,14 +46,14 @@ left c = c.rows-first.ensures.work
 abbrev r : (t : In-Refused) → Refusal
 r t = t.in-Refused.r
 
-told : (t : In-Refused) → ofRefusal (r t) ≡ rows false (short (record { before = t.before.before.before.before; type_inv = record { out = t.slice_known-1.given; pairs = t.shared_slice_known-1.given }; })) (ps (record { before = t.before.before.before.before; type_inv = record { out = t.slice_known-1.given; pairs = t.shared_slice_known-1.given }; })) (qs (record { before = t.before.before.before.before; type_inv = record { out = t.slice_known-1.given; pairs = t.shared_slice_known-1.given }; }))
+told : (t : In-Refused) → ofRefusal (r t) ≡ rows false (short (record { before = t.before.before.before.before; type_inv = record { out = t.slice_known-1.given; pairs = t.shared_slice_known-1.given } })) (ps (record { before = t.before.before.before.before; type_inv = record { out = t.slice_known-1.given; pairs = t.shared_slice_known-1.given } })) (qs (record { before = t.before.before.before.before; type_inv = record { out = t.slice_known-1.given; pairs = t.shared_slice_known-1.given } }))
 told t = ap ofChecked (sym t.in-Refused.is) ∙ t.rows-first.ensures.answer
 
 pub returns-in-Refused : goal.returns-in-Refused
 returns-in-Refused c = refused_so (ps (goal.at.returns-in-Refused c).After-rows-first) (qs (goal.at.returns-in-Refused c).After-rows-first) (out (goal.at.returns-in-Refused c).After-rows-first) (w (goal.at.returns-in-Refused c).After-rows-first) (short-is (goal.at.returns-in-Refused c).After-rows-first) (left (goal.at.returns-in-Refused c).After-rows-first) (r (goal.at.returns-in-Refused c).In-Refused) (told (goal.at.returns-in-Refused c).In-Refused)
 
 -- no refusal
-none : (t : In-Passed) → yes ≡ rows false (short (record { before = t.before.before.before.before; type_inv = record { out = t.slice_known-1.given; pairs = t.shared_slice_known-1.given }; })) (ps (record { before = t.before.before.before.before; type_inv = record { out = t.slice_known-1.given; pairs = t.shared_slice_known-1.given }; })) (qs (record { before = t.before.before.before.before; type_inv = record { out = t.slice_known-1.given; pairs = t.shared_slice_known-1.given }; }))
+none : (t : In-Passed) → yes ≡ rows false (short (record { before = t.before.before.before.before; type_inv = record { out = t.slice_known-1.given; pairs = t.shared_slice_known-1.given } })) (ps (record { before = t.before.before.before.before; type_inv = record { out = t.slice_known-1.given; pairs = t.shared_slice_known-1.given } })) (qs (record { before = t.before.before.before.before; type_inv = record { out = t.slice_known-1.given; pairs = t.shared_slice_known-1.given } }))
 none t = ap ofChecked (sym t.in-Passed.is) ∙ t.rows-first.ensures.answer
 
 pub make_sheet-requires : goal.make_sheet-requires

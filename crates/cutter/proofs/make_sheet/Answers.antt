@@ -1,18 +1,11 @@
-use borrow.Author.Rules.{rules}
-use mathlib.Core.List.{List}
-use mathlib.Core.Path.{◌≡◌, refl, sym, ap, ◌∙◌, subst}
-use Prim.Native.Nat.{ℕ, ◌+◌, ◌-◌, ◌*◌, ◌/◌, ◌≤◌, ◌<◌}
+use mathlib.Core.Path.{refl, subst}
+use Prim.Native.Nat.{◌-◌, ◌<◌}
 use native.Mathlib.Omega.{arith}
-use lib.IntN.{ℤ}
-use lib.ListN.{length}
-use Rattle.tables.specs.Answers.{yes}
 use Rattle.tables.specs.Data.{point_count, pair_count}
-use Rattle.tables.specs.Figures.{Figure}
 use Rattle.nets.specs.Layout.{Kept}
 use Rattle.stages.specs.Stages.{Ground}
 use Rattle.recovery.specs.Lines.{Lined, AllGo}
-use Rattle.recovery.specs.declared.Pairs.TheVariants.{All, Stuck}
-use Rattle.cutter.specs.Cuts.{asked, Passed}
+use Rattle.cutter.specs.Cuts.{Passed}
 use Rattle.cutter.proofs.Cuts.{is_figure, work_room, few, clear_asked, lined, long3, stuck_left, sheet_asked, long4, sheet_left, written}
 use Rattle.cutter.proofs.make_sheet.Goals as goal
 use Rattle.cutter.proofs.make_sheet.Goals.{In_default, In-Stuck}

@@ -1,5 +1,4 @@
-use borrow.Author.Rules.{rules}
-use mathlib.Core.Path.{◌≡◌, sym, ap, ◌∙◌, subst}
+use mathlib.Core.Path.{sym, ap, ◌∙◌, subst}
 use Prim.Native.Nat.{ℕ, ◌<◌}
 use native.Mathlib.Omega.{arith}
 use lib.ListN.{length}
@@ -21,7 +20,7 @@ next_edge-requires-2 c = let a = low (goal.at.next_edge-requires-2 c).After-next
 
 low2 : (c : After-next_edge-2) → c.next_edge-2.result < length c.args.list.now
 low2 c =
-    subst (λ (k : ℕ). k < length c.args.list.now) (sym c.next_edge-2.ensures) (nxt_low c.next_edge.result (length c.args.list.now) (low (record { before = c.before.before; type_inv = record { list = c.shared_slice_known-1.given }; })) c.requires.0.whole)
+    subst (λ (k : ℕ). k < length c.args.list.now) (sym c.next_edge-2.ensures) (nxt_low c.next_edge.result (length c.args.list.now) (low (record { before = c.before.before; type_inv = record { list = c.shared_slice_known-1.given } })) c.requires.0.whole)
 
 pub overflow_cast-result : goal.overflow_cast-result
 overflow_cast-result c = record { fits = omega (arith, c.type_inv.list c.next_edge-2.result) }
@@ -30,7 +29,7 @@ pub returns : goal.returns
 returns c = ap (corner c.args.list.now) (c.next_edge-2.ensures ∙ ap nxt c.next_edge.ensures)
 
 pub offset_bounds-list-next_edge : goal.offset_bounds-list-next_edge
-offset_bounds-list-next_edge c = record { fits = let a = low2 (goal.at.offset_bounds-list-next_edge c).After-next_edge-2 in let f = c.requires.0.few in omega arith; }
+offset_bounds-list-next_edge c = record { fits = let a = low2 (goal.at.offset_bounds-list-next_edge c).After-next_edge-2 in let f = c.requires.0.few in omega arith }
 
 pub bounds-list-next_edge : goal.bounds-list-next_edge
 bounds-list-next_edge c = low2 (goal.at.bounds-list-next_edge c).After-next_edge-2

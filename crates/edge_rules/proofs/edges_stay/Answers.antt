@@ -1,14 +1,10 @@
-use borrow.Author.Rules.{rules}
 use mathlib.Core.Path.{◌≡◌, refl, sym, ap, ◌∙◌}
-use mathlib.Core.Bool.{Bool, true, false}
-use mathlib.Core.List.{List}
-use lib.IntN.{ℤ}
-use Prim.Native.Nat.{ℕ, ◌-◌, ◌≤◌}
+use mathlib.Core.Bool.{true, false}
+use Prim.Native.Nat.{ℕ, ◌-◌}
 use native.Mathlib.Omega.{arith}
 use lib.ListN.{length}
 use Rattle.algebra.specs.Tests.{all_to}
 use Rattle.algebra.proofs.Tests.{all_more, all_fails}
-use Rattle.list_rules.proofs.Once.{not_true, not_false}
 use Rattle.edge_rules.specs.Stays.{stays}
 use Rattle.edge_rules.proofs.edges_stay.Goals as goal
 use Rattle.edge_rules.proofs.edges_stay.Invariants.{still}
@@ -26,10 +22,10 @@ returns-then-not-stays c = sym (all_fails (still c.args.points.now c.args.list.n
 
 pub loop-h-preserved : goal.loop-h-preserved
 loop-h-preserved c = let l = c.loop-h in (
-      omega arith,
-      all_more (still c.args.points.now c.args.list.now c.args.work.now) l.h l.invariant.1
-          (sym c.stays.ensures ∙ c.if-not-stays.false),
-    )
+  omega arith,
+  all_more (still c.args.points.now c.args.list.now c.args.work.now) l.h l.invariant.1
+      (sym c.stays.ensures ∙ c.if-not-stays.false),
+)
 
 pub returns : goal.returns
 returns c = let l = c.loop-h in

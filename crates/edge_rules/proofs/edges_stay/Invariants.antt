@@ -1,14 +1,10 @@
-use borrow.Author.Rules.{rules}
-use mathlib.Core.Path.{◌≡◌, refl, sym, ap, ◌∙◌}
-use mathlib.Core.Bool.{Bool, true, false}
+use mathlib.Core.Path.{◌≡◌}
+use mathlib.Core.Bool.{Bool, true}
 use mathlib.Core.List.{List}
 use lib.IntN.{ℤ}
 use Prim.Native.Nat.{ℕ, ◌-◌, ◌≤◌}
-use native.Mathlib.Omega.{arith}
 use lib.ListN.{length}
 use Rattle.algebra.specs.Tests.{all_to}
-use Rattle.algebra.proofs.Tests.{all_more, all_fails}
-use Rattle.list_rules.proofs.Once.{not_true, not_false}
 use Rattle.edge_rules.specs.Stays.{stays}
 use Rattle.edge_rules.proofs.edges_stay.Given as goal
 

@@ -1,6 +1,5 @@
-use borrow.Author.Rules.{rules}
 use mathlib.Core.Path.{◌≡◌, sym, ap, ◌∙◌, subst}
-use mathlib.Core.Bool.{Bool, not}
+use mathlib.Core.Bool.{not}
 use Prim.Native.Nat.{ℕ, ◌<◌}
 use lib.Dec.{eqb, eqb-suc-zero}
 use lib.ListN.{length}
@@ -24,12 +23,12 @@ sought c = ap (λ (k : ℕ). found_at (last_edge c.args.list.now k (corner c.arg
 
 pub find-found-requires : goal.find-found-requires
 find-found-requires c = let p = c.requires in (
-      subst (λ (k : ℕ). k < c.args.n) (sym c.head.ensures)
-          (p.0.corners (nxt c.args.h) (nxt_low c.args.h (length c.args.list.now) p.1 p.0.whole)),
-      p.0.whole,
-      p.0.fits,
-      p.0.indexed,
-    )
+  subst (λ (k : ℕ). k < c.args.n) (sym c.head.ensures)
+      (p.0.corners (nxt c.args.h) (nxt_low c.args.h (length c.args.list.now) p.1 p.0.whole)),
+  p.0.whole,
+  p.0.fits,
+  p.0.indexed,
+)
 
 pub returns-in-At : goal.returns-in-At
 returns-in-At c = let g = c.in-At.field-0 in

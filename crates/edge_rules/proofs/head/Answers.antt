@@ -1,9 +1,7 @@
-use borrow.Author.Rules.{rules}
-use mathlib.Core.Path.{◌≡◌, sym, ap, subst}
+use mathlib.Core.Path.{sym, ap, subst}
 use Prim.Native.Nat.{ℕ, ◌<◌}
 use native.Mathlib.Omega.{arith}
 use lib.ListN.{length}
-use Rattle.plane.specs.Halfedges.{nxt}
 use Rattle.tables.specs.Rules.{corner}
 use Rattle.edges.proofs.Search.{nxt_low}
 use Rattle.edge_rules.proofs.head.Goals as goal

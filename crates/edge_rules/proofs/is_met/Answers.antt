@@ -1,5 +1,4 @@
-use borrow.Author.Rules.{rules}
-use mathlib.Core.Path.{◌≡◌, sym, ap, ◌∙◌, subst}
+use mathlib.Core.Path.{sym, ap, ◌∙◌, subst}
 use Prim.Native.Nat.{ℕ, ◌<◌}
 use native.Mathlib.Omega.{arith}
 use lib.ListN.{length}
@@ -19,13 +18,16 @@ pub head-v-requires : goal.head-v-requires
 head-v-requires c = let p = c.requires in (record { whole = p.3.whole; few = p.3.fits.few }, p.4)
 
 pub along_side-requires : goal.along_side-requires
-along_side-requires c = let p = c.requires in record { near = p.0; bound = (
-        p.1,
-        p.3.corners c.args.h p.4,
-        subst (λ (k : ℕ). k < point_count c.args.points.now) (sym c.head-v.ensures)
-            (p.3.corners (nxt c.args.h) (nxt_low c.args.h (length c.args.list.now) p.4 p.3.whole)),
-        p.2,
-      ) }
+along_side-requires c = let p = c.requires in record {
+  near = p.0;
+  bound = (
+    p.1,
+    p.3.corners c.args.h p.4,
+    subst (λ (k : ℕ). k < point_count c.args.points.now) (sym c.head-v.ensures)
+        (p.3.corners (nxt c.args.h) (nxt_low c.args.h (length c.args.list.now) p.4 p.3.whole)),
+    p.2,
+  );
+}
 
 pub returns : goal.returns
 returns c = rw (sym c.has_reverse.ensures ∙ c.if-has_reverse.false)

@@ -1,10 +1,9 @@
-use borrow.Author.Rules.{rules}
 use mathlib.Core.Path.{◌≡◌, sym, ap, ◌∙◌, subst}
-use mathlib.Core.Bool.{Bool, not}
+use mathlib.Core.Bool.{not}
 use Prim.Native.Nat.{ℕ, suc, ◌+◌, ◌*◌, ◌<◌}
 use native.Mathlib.Omega.{arith}
 use borrow.Author.Tests.{eq-eqb, ne_eqb}
-use lib.ListN.{length, get_or}
+use lib.ListN.{length}
 use Rattle.plane.specs.Halfedges.{nxt}
 use Rattle.tables.specs.Data.{point_count}
 use Rattle.tables.specs.Rules.{corner}
@@ -32,25 +31,25 @@ sought c = ap (λ (k : ℕ). found_at (last_edge c.args.list.now k (corner c.arg
 
 pub find-found-requires : goal.find-found-requires
 find-found-requires c = let p = c.requires in (
-      subst (λ (k : ℕ). k < point_count c.args.points.now) (sym c.head.ensures)
-          (p.1.corners (nxt c.args.h) (nxt_low c.args.h (length c.args.list.now) p.4 p.1.whole)),
-      p.1.whole,
-      p.1.fits,
-      p.1.indexed,
-    )
+  subst (λ (k : ℕ). k < point_count c.args.points.now) (sym c.head.ensures)
+      (p.1.corners (nxt c.args.h) (nxt_low c.args.h (length c.args.list.now) p.4 p.1.whole)),
+  p.1.whole,
+  p.1.fits,
+  p.1.indexed,
+)
 
-found-at : (c : In-At) → last (record { before = c.before.before.before.before; type_inv = record { work = c.shared_slice_known-3-1.given; list = c.shared_slice_known-1.given }; }) ≡ suc c.in-At.g
+found-at : (c : In-At) → last (record { before = c.before.before.before.before; type_inv = record { work = c.shared_slice_known-3-1.given; list = c.shared_slice_known-1.given } }) ≡ suc c.in-At.g
 found-at c =
-    is_at (last (record { before = c.before.before.before.before; type_inv = record { work = c.shared_slice_known-3-1.given; list = c.shared_slice_known-1.given }; })) c.in-At.g (sym c.in-At.is ∙ c.find-found.ensures ∙ sought (record { before = c.before.before.before.before; type_inv = record { work = c.shared_slice_known-3-1.given; list = c.shared_slice_known-1.given }; }))
+    is_at (last (record { before = c.before.before.before.before; type_inv = record { work = c.shared_slice_known-3-1.given; list = c.shared_slice_known-1.given } })) c.in-At.g (sym c.in-At.is ∙ c.find-found.ensures ∙ sought (record { before = c.before.before.before.before; type_inv = record { work = c.shared_slice_known-3-1.given; list = c.shared_slice_known-1.given } }))
 
 pub turns-requires : goal.turns-requires
 turns-requires c = let p = c.requires in (
-      p.0,
-      record { whole = p.1.whole; few = p.1.fits.few },
-      p.1.corners,
-      p.4,
-      low c.args.points.now c.args.list.now c.args.work.now c.args.h p.1.whole p.3 c.in-At.g (found-at (goal.at.turns-requires c).In-At),
-    )
+  p.0,
+  record { whole = p.1.whole; few = p.1.fits.few },
+  p.1.corners,
+  p.4,
+  low c.args.points.now c.args.list.now c.args.work.now c.args.h p.1.whole p.3 c.in-At.g (found-at (goal.at.turns-requires c).In-At),
+)
 
 pub returns-in-At : goal.returns-in-At
 returns-in-At c = let p = c.requires in

@@ -1,4 +1,3 @@
-use borrow.Author.Rules.{rules}
 use native.Mathlib.Omega.{arith}
 use Rattle.edge_splits.proofs.Written.{edge_written}
 use Rattle.edge_splits.proofs.split_edge.Goals as goal

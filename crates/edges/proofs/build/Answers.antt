@@ -1,10 +1,8 @@
-use borrow.Author.Rules.{rules}
 use mathlib.Core.Path.{◌≡◌, refl, subst}
 use Prim.Native.Nat.{ℕ, ◌+◌, ◌≤◌, ◌-◌, ◌<◌}
 use native.Mathlib.Omega.{arith}
 use lib.ListN.{length, get_or, length-set}
-use Rattle.rooms.specs.Rest.{Rest}
-use Rattle.edges.specs.Index.{Corners, Fits, Indexed}
+use Rattle.edges.specs.Index.{Indexed}
 use Rattle.edges.proofs.Index.{more_indexed, more_rest}
 use Rattle.edges.proofs.build.Goals as goal
 use Rattle.edges.proofs.build.Goals.{After-shared_slice_known-1}
@@ -48,10 +46,10 @@ bounds-work-v-in-loop-h c = simp length-set (let a = v_low (goal.at.bounds-work-
 
 pub loop-h-preserved : goal.loop-h-preserved
 loop-h-preserved c = let l = c.loop-h in (
-      omega arith,
-      more_indexed c.args.n c.args.list.now l.work l.h (low (goal.at.loop-h-preserved c).After-shared_slice_known-1) c.requires.0 (room (goal.at.loop-h-preserved c).After-shared_slice_known-1) l.invariant.1,
-      more_rest c.args.n c.args.list.now l.work l.h (low (goal.at.loop-h-preserved c).After-shared_slice_known-1) c.requires.0 (room (goal.at.loop-h-preserved c).After-shared_slice_known-1) l.invariant.1 c.args.work.now l.invariant.2,
-    )
+  omega arith,
+  more_indexed c.args.n c.args.list.now l.work l.h (low (goal.at.loop-h-preserved c).After-shared_slice_known-1) c.requires.0 (room (goal.at.loop-h-preserved c).After-shared_slice_known-1) l.invariant.1,
+  more_rest c.args.n c.args.list.now l.work l.h (low (goal.at.loop-h-preserved c).After-shared_slice_known-1) c.requires.0 (room (goal.at.loop-h-preserved c).After-shared_slice_known-1) l.invariant.1 c.args.work.now l.invariant.2,
+)
 
 pub returns : goal.returns
 returns c = let l = c.loop-h in

@@ -1,11 +1,7 @@
-use borrow.Author.Rules.{rules}
-use mathlib.Core.Path.{◌≡◌, refl, subst}
-use Prim.Native.Nat.{ℕ, ◌+◌, ◌≤◌, ◌-◌, ◌<◌}
-use native.Mathlib.Omega.{arith}
-use lib.ListN.{length, get_or, length-set}
+use Prim.Native.Nat.{◌+◌, ◌≤◌, ◌-◌}
+use lib.ListN.{length}
 use Rattle.rooms.specs.Rest.{Rest}
-use Rattle.edges.specs.Index.{Corners, Fits, Indexed}
-use Rattle.edges.proofs.Index.{more_indexed, more_rest}
+use Rattle.edges.specs.Index.{Indexed}
 use Rattle.edges.proofs.build.Given as goal
 
 abbrev pub invariant-loop-h : goal.invariant-loop-h

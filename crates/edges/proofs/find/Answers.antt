@@ -1,8 +1,7 @@
-use borrow.Author.Rules.{rules}
-use mathlib.Core.Path.{◌≡◌, sym, ap, ◌∙◌, subst}
+use mathlib.Core.Path.{sym, ap, ◌∙◌, subst}
 use Prim.Native.Nat.{ℕ, ◌+◌, ◌-◌, ◌≤◌, ◌<◌}
 use native.Mathlib.Omega.{arith}
-use lib.ListN.{length, get_or}
+use lib.ListN.{length}
 use Rattle.plane.specs.Halfedges.{nxt}
 use Rattle.tables.specs.Rules.{corner}
 use Rattle.edges.proofs.Search.{Reached, start, link_low, hit, miss, falls, nowhere, nxt_low}
@@ -38,7 +37,7 @@ pub next_edge-requires : goal.next_edge-requires
 next_edge-requires c = let a = below (goal.at.next_edge-requires c).In-loop-link in let f = few (goal.at.next_edge-requires c).In-loop-link in omega arith
 
 read_low : (c : After-next_edge) → c.next_edge.result < length c.args.list.now
-read_low c = subst (λ (k : ℕ). k < length c.args.list.now) (sym c.next_edge.ensures) (next_low (record { before = c.before.before; type_inv = record { work = c.shared_slice_known-3-1.given; list = c.shared_slice_known-1.given }; }))
+read_low c = subst (λ (k : ℕ). k < length c.args.list.now) (sym c.next_edge.ensures) (next_low (record { before = c.before.before; type_inv = record { work = c.shared_slice_known-3-1.given; list = c.shared_slice_known-1.given } }))
 
 pub offset_bounds-list-next_edge : goal.offset_bounds-list-next_edge
 offset_bounds-list-next_edge c = record { fits = let a = read_low (goal.at.offset_bounds-list-next_edge c).After-next_edge in let f = few (goal.at.offset_bounds-list-next_edge c).In-loop-link in omega arith }
@@ -46,8 +45,8 @@ offset_bounds-list-next_edge c = record { fits = let a = read_low (goal.at.offse
 pub returns-then-list-next_edge : goal.returns-then-list-next_edge
 returns-then-list-next_edge c = hit c.args.list.now c.args.u c.args.v (link (goal.at.returns-then-list-next_edge c).In-loop-link) (at (goal.at.returns-then-list-next_edge c).In-loop-link) c.loop-link-test.true (ap (corner c.args.list.now) (sym c.next_edge.ensures) ∙ c.if-list-next_edge.true)
 
-room : (c : Else-list-next_edge) → c.args.n + (link (record { before = c.before.before.before.before; type_inv = record { work = c.shared_slice_known-3-1.given; list = c.shared_slice_known-1.given }; }) - 1) < length c.args.work.now
-room c = let a = below (record { before = c.before.before.before.before; type_inv = record { work = c.shared_slice_known-3-1.given; list = c.shared_slice_known-1.given }; }) in let p = c.loop-link-test.true in let r = c.requires.2.room in omega arith
+room : (c : Else-list-next_edge) → c.args.n + (link (record { before = c.before.before.before.before; type_inv = record { work = c.shared_slice_known-3-1.given; list = c.shared_slice_known-1.given } }) - 1) < length c.args.work.now
+room c = let a = below (record { before = c.before.before.before.before; type_inv = record { work = c.shared_slice_known-3-1.given; list = c.shared_slice_known-1.given } }) in let p = c.loop-link-test.true in let r = c.requires.2.room in omega arith
 
 pub overflow_add-link : goal.overflow_add-link
 overflow_add-link c = record { fits = let a = room (goal.at.overflow_add-link c).Else-list-next_edge in omega arith }

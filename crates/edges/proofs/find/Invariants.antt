@@ -1,11 +1,5 @@
-use borrow.Author.Rules.{rules}
-use mathlib.Core.Path.{◌≡◌, sym, ap, ◌∙◌, subst}
-use Prim.Native.Nat.{ℕ, ◌+◌, ◌-◌, ◌≤◌, ◌<◌}
-use native.Mathlib.Omega.{arith}
-use lib.ListN.{length, get_or}
-use Rattle.plane.specs.Halfedges.{nxt}
-use Rattle.tables.specs.Rules.{corner}
-use Rattle.edges.proofs.Search.{Reached, start, link_low, hit, miss, falls, nowhere, nxt_low}
+use Prim.Native.Nat.{◌-◌}
+use Rattle.edges.proofs.Search.{Reached}
 use Rattle.edges.proofs.find.Given as goal
 
 abbrev pub invariant-loop-link : goal.invariant-loop-link

@@ -1,4 +1,3 @@
-use borrow.Author.Rules.{rules}
 use native.Mathlib.Omega.{arith}
 use Rattle.plane.specs.Halfedges.{nxt}
 use Rattle.edges.proofs.next_edge.Goals as goal

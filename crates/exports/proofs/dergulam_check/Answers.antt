@@ -1,4 +1,3 @@
-use borrow.Author.Rules.{rules}
 use mathlib.Core.Path.{sym, ap, ◌∙◌, subst}
 use Prim.Native.Nat.{◌<◌}
 use lib.ListN.{length}
@@ -13,7 +12,10 @@ verdict-requires c = let s = c.args in
     subst (λ (p : Paper). value_in p < shift) (sym c.check-answer.ensures.verdict) (verdict_below s.points.now s.pairs.now s.list.now (length s.work.now))
 
 pub returns : goal.returns
-returns c = let s = c.args in record { answer = record {
-        number = c.verdict.ensures ∙ ap packed c.check-answer.ensures.verdict;
-        small = verdict_below s.points.now s.pairs.now s.list.now (length s.work.now);
-      }; work = c.check-answer.ensures.work }
+returns c = let s = c.args in record {
+  answer = record {
+    number = c.verdict.ensures ∙ ap packed c.check-answer.ensures.verdict;
+    small = verdict_below s.points.now s.pairs.now s.list.now (length s.work.now);
+  };
+  work = c.check-answer.ensures.work;
+}

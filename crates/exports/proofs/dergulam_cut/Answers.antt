@@ -1,4 +1,3 @@
-use borrow.Author.Rules.{rules}
 use mathlib.Core.Path.{refl}
 use Rattle.cutter.specs.Cuts.{Cutting}
 use Rattle.exports.proofs.Bounds.{cut_place, told_sheet, told_refusal}

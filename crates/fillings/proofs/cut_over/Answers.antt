@@ -1,4 +1,3 @@
-use borrow.Author.Rules.{rules}
 use Rattle.seams.proofs.Fitting.{cut_fits, cut_as}
 use Rattle.fillings.proofs.cut_over.Goals as goal
 

@@ -1,4 +1,3 @@
-use borrow.Author.Rules.{rules}
 use Rattle.flip_rules.proofs.Step3.{before_tied, before_apart}
 use Rattle.flip_rules.proofs.before.Goals as goal
 

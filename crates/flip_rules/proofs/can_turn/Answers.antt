@@ -1,4 +1,3 @@
-use borrow.Author.Rules.{rules}
 use Rattle.flip_rules.proofs.can_turn.Goals as goal
 
 pub returns-then-is_left : goal.returns-then-is_left

@@ -1,4 +1,3 @@
-use borrow.Author.Rules.{rules}
 use Rattle.flip_rules.proofs.Step3.{below_1, below_2, below_3}
 use Rattle.flip_rules.proofs.pair_below.Goals as goal
 

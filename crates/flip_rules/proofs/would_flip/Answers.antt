@@ -1,4 +1,3 @@
-use borrow.Author.Rules.{rules}
 use Rattle.flip_rules.proofs.Step3.{inside, outside, tie_lost, tie_won}
 use Rattle.flip_rules.proofs.would_flip.Goals as goal
 

@@ -1,6 +1,6 @@
-use Rattle.std.proofs.Common.{◌≡◌, Bool, true, false, T, sym, ap, ◌∙◌, subst}
+use Rattle.std.proofs.Common.{T, sym, subst}
 use lib.Ieee.{of_bits}
-use Rattle.floats.proofs.Zero.{abs_below, abs_zero, abs_rest, finite_is}
+use Rattle.floats.proofs.Zero.{abs_below, abs_zero, abs_rest}
 use Rattle.float_signs.proofs.abs.Goals as goal
 
 pub returns-then-x : goal.returns-then-x

@@ -1,4 +1,4 @@
-use Rattle.std.proofs.Common.{◌≡◌, Bool, true, false, sym, ap, ◌∙◌, rules}
+use Rattle.std.proofs.Common.{◌≡◌, Bool, true, false, sym, ap, ◌∙◌}
 use lib.Ieee.{Float, binary64, mul, lt, of_bits}
 use lib.Ieee.Scale.{finite}
 use Rattle.floats.specs.Whole.{abs_f}

@@ -1,4 +1,4 @@
-use Rattle.std.proofs.Common.{◌≡◌, ℕ, zero, suc, ◌+◌, ◌-◌, ◌/◌, ◌%◌, ◌^◌, ◌<◌, ◌≤◌, Bool, true, false, not, T, sym, refl, ap, ◌∙◌, subst, ap₂, mod-lt, arith, pow_pos, rules}
+use Rattle.std.proofs.Common.{◌≡◌, ℕ, suc, ◌+◌, ◌-◌, ◌/◌, ◌^◌, ◌<◌, true, false, T, sym, ap, ◌∙◌, subst, ap₂, mod-lt, arith, pow_pos}
 use lib.Bits.{bit_and, bit_or, and_mask, or_shifted_r}
 use lib.Ieee.{Float, binary64, of_bits, to_bits, fits, odd, lt, eq}
 use lib.Ieee.Scale.{finite}
@@ -6,9 +6,6 @@ use Rattle.float_signs.specs.Parts.{decomp_of, Reduced}
 use Rattle.float_signs.specs.declared.Dyadic.{Dyadic}
 use Rattle.floats.proofs.Zero.{O}
 use Rattle.float_signs.proofs.Mantissa.{biased_of, frac_of, small_field, large_field, infinite, zeros, no_nan, reduced}
-use Rattle.float_signs.proofs.decomp.Reads as reads
-use Rattle.float_signs.proofs.is_finite.Reads as is-finite-reads
-use Rattle.float_signs.proofs.parts.Reads as parts-reads 
 use Rattle.float_signs.proofs.decomp.Goals as goal
 use Rattle.float_signs.proofs.decomp.Goals.{Else-biased-eq0, Else-v, Start, Then-biased-eq0, Then-is_finite}
 

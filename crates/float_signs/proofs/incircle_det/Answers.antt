@@ -1,4 +1,4 @@
-use Rattle.std.proofs.Common.{◌≡◌, refl}
+use Rattle.std.proofs.Common.{refl}
 use Rattle.float_signs.specs.Filter.{circle_f}
 use Rattle.float_signs.proofs.Filtering.{circle_exact}
 use Rattle.float_signs.proofs.incircle_det.Goals as goal

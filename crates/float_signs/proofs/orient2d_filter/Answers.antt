@@ -1,4 +1,4 @@
-use Rattle.std.proofs.Common.{◌≡◌, ℤ, ◌∙◌, rules}
+use Rattle.std.proofs.Common.{◌≡◌, ℤ, ◌∙◌}
 use lib.Ieee.{of_bits}
 use Rattle.plane.specs.Points.{Pt}
 use Rattle.plane.specs.Determinants.{orient}

@@ -1,11 +1,9 @@
-use Rattle.std.proofs.Common.{◌≡◌, ℕ, zero, suc, ◌+◌, ◌/◌, ◌^◌, ◌<◌, ◌≤◌, Bool, true, false, ℤ, pos, negsuc, ◌-ℤ◌, neg_ℤ, sym, refl, ap, ◌∙◌, subst, ap₂, le_trans, lt_of_le_of_lt, arith, lit<, w32, w64, Fits, SFits, to_z, of_z}
+use Rattle.std.proofs.Common.{◌≡◌, ℕ, zero, suc, ◌+◌, ◌/◌, ◌^◌, ◌<◌, ◌≤◌, Bool, true, false, pos, ◌-ℤ◌, neg_ℤ, sym, ap, ◌∙◌, ap₂, lt_of_le_of_lt, arith, lit<, w32, w64, SFits, to_z, of_z}
 use lib.IntN.{+ℤ_idl}
-use lib.Signed.{mag}
 use lib.Pow.{shr_le}
 use lib.Count.{count_trailing_zeros}
 use lib.Ieee.{odd}
 use mir.ValLaws.{to_z-of_z, to_z_pos}
-use Rattle.floats.specs.Whole.{signed}
 use Rattle.float_signs.specs.Parts.{decomp_of}
 use Rattle.float_signs.specs.declared.Dyadic.TheVariants.{Parts}
 use Rattle.float_signs.proofs.Mantissa.{tz_le, parts_are, sub_small}

@@ -1,15 +1,11 @@
-use Rattle.std.proofs.Common.{◌≡◌, ℕ, ◌<◌, ◌≤◌, Bool, true, false, cond, T, ℤ, nat_abs, sym, refl, ap, ◌∙◌, subst, ap₂, lt_of_le_of_lt, lit<, w32, w64, SFits, to_z, of_z, rules}
+use Rattle.std.proofs.Common.{◌≡◌, ◌≤◌, Bool, true, false, cond, ℤ, nat_abs, sym, ap, ◌∙◌, subst, lt_of_le_of_lt, lit<, w32, w64, SFits, to_z, of_z}
 use lib.Signed.{mag}
-use lib.Ieee.{Float, binary64, of_bits, neg, eq, of_int, in_float, to_signed}
+use lib.Ieee.{binary64, of_bits, neg, eq, of_int}
 use lib.Ieee.Scale.{finite}
 use mir.ValLaws.{to_z-of_z}
 use Rattle.float_signs.specs.Intake.{intake_of}
-use Rattle.float_signs.specs.declared.Intake.{Intake}
-use Rattle.float_signs.specs.declared.Intake.TheVariants.{Whole, NotFinite, TooLarge, Fraction}
+use Rattle.float_signs.specs.declared.Intake.TheVariants.{Whole, Fraction}
 use Rattle.float_signs.proofs.Coordinate.{Bounded, not_finite, too_large_above, too_large_below, bounded, above_least, below_most, part_small, part_mag, in_float_lem, back_is}
-use Rattle.float_signs.proofs.take_in.Reads as reads
-use Rattle.float_signs.proofs.is_finite.Reads as is-finite-reads
-use Rattle.std.proofs.num.truncating_f64_to_i64.Reads as truncating-f64-to-i64-reads 
 use Rattle.float_signs.proofs.take_in.Goals as goal
 use Rattle.float_signs.proofs.take_in.Goals.{After-row_known-1, After-truncating_f64_to_i64-t, Else-x-2, Then-is_finite}
 

@@ -1,4 +1,4 @@
-use Rattle.std.proofs.Common.{◌≡◌, ℤ, sym, ap, ◌∙◌, ap₂, to_z-of_z, w32, SFits, rules}
+use Rattle.std.proofs.Common.{◌≡◌, sym, ap, ◌∙◌, ap₂, to_z-of_z, w32, SFits, rules}
 use Rattle.float_signs.specs.Intake.{intake_of, both}
 use Rattle.float_signs.specs.declared.Intake.{Intake}
 use Rattle.float_signs.specs.declared.Intake.TheVariants.{Whole}

@@ -1,5 +1,3 @@
-use borrow.Author.Rules.{rules}
-use native.Mathlib.Omega.{arith}
 use Rattle.houses.proofs.Houses.{earlier_told}
 use Rattle.houses.proofs.earlier.Goals as goal
 

@@ -1,4 +1,3 @@
-use borrow.Author.Rules.{rules}
 use Rattle.houses.proofs.Houses.{second_a, second_b, second_c}
 use Rattle.houses.proofs.second.Goals as goal
 

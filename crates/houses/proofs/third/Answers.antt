@@ -1,4 +1,3 @@
-use borrow.Author.Rules.{rules}
 use Rattle.houses.proofs.Houses.{third_a, third_b, third_c}
 use Rattle.houses.proofs.third.Goals as goal
 

@@ -1,16 +1,10 @@
-use borrow.Author.Rules.{rules}
 use borrow.Author.Count.{below_more}
-use mathlib.Core.Path.{◌≡◌, sym, ap, ◌∙◌}
-use mathlib.Core.Bool.{Bool, true, false, not}
-use Prim.Native.Nat.{ℕ, ◌+◌, ◌-◌, ◌≤◌, ◌<◌}
+use mathlib.Core.Path.{sym, ◌∙◌}
+use mathlib.Core.Bool.{true, false}
+use Prim.Native.Nat.{◌-◌}
 use native.Mathlib.Nat.{not-suc-le-zero}
 use native.Mathlib.Omega.{arith}
-use lib.Dec.{eqb}
-use lib.ListN.{length}
-use Rattle.plane.specs.Halfedges.{nxt}
-use Rattle.tables.specs.Rules.{corner}
-use Rattle.edges.specs.Index.{last_edge}
-use Rattle.list_rules.proofs.Once.{once_fails, once_holds, not_false, not_true}
+use Rattle.list_rules.proofs.Once.{once_fails, once_holds}
 use Rattle.list_rules.proofs.edges_once.Goals as goal
 
 pub loop-h-init : goal.loop-h-init

@@ -1,16 +1,11 @@
-use borrow.Author.Rules.{rules}
-use borrow.Author.Count.{below_more}
-use mathlib.Core.Path.{◌≡◌, sym, ap, ◌∙◌}
-use mathlib.Core.Bool.{Bool, true, false, not}
+use mathlib.Core.Path.{◌≡◌}
+use mathlib.Core.Bool.{true}
 use Prim.Native.Nat.{ℕ, ◌+◌, ◌-◌, ◌≤◌, ◌<◌}
-use native.Mathlib.Nat.{not-suc-le-zero}
-use native.Mathlib.Omega.{arith}
 use lib.Dec.{eqb}
 use lib.ListN.{length}
 use Rattle.plane.specs.Halfedges.{nxt}
 use Rattle.tables.specs.Rules.{corner}
 use Rattle.edges.specs.Index.{last_edge}
-use Rattle.list_rules.proofs.Once.{once_fails, once_holds, not_false, not_true}
 use Rattle.list_rules.proofs.edges_once.Given as goal
 
 abbrev pub invariant-loop-h : goal.invariant-loop-h

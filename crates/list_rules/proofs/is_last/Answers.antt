@@ -1,10 +1,8 @@
-use borrow.Author.Rules.{rules}
 use mathlib.Core.Path.{◌≡◌, sym, ap, ◌∙◌, subst}
-use mathlib.Core.List.{List}
 use Prim.Native.Nat.{ℕ, ◌+◌, ◌<◌}
 use native.Mathlib.Omega.{arith}
 use lib.Dec.{eqb}
-use lib.ListN.{length, get_or}
+use lib.ListN.{length}
 use Rattle.plane.specs.Halfedges.{nxt}
 use Rattle.tables.specs.Rules.{corner}
 use Rattle.edges.specs.Index.{last_edge, found_at}

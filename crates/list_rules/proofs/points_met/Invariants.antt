@@ -1,19 +1,10 @@
-use borrow.Author.Rules.{rules}
-use mathlib.Core.Path.{◌≡◌, refl, sym, ap, ◌∙◌}
-use mathlib.Core.Bool.{Bool, true, false, not}
+use mathlib.Core.Path.{◌≡◌}
+use mathlib.Core.Bool.{Bool, true}
 use mathlib.Core.List.{List}
-use Prim.Native.Nat.{ℕ, ◌+◌, ◌*◌, ◌-◌, ◌≤◌, ◌<◌}
-use native.Mathlib.Omega.{arith}
-use borrow.Author.Tests.{eq-eqb, ne_eqb}
+use Prim.Native.Nat.{ℕ, ◌*◌, ◌-◌, ◌≤◌}
 use lib.Dec.{eqb}
-use lib.ListN.{length, get_or}
 use Rattle.algebra.specs.Tests.{all_to, any_to}
-use Rattle.algebra.proofs.Tests.{all_more, all_fails}
 use Rattle.tables.specs.Rules.{triples, corner}
-use Rattle.edges.specs.Index.{last_of}
-use Rattle.edges.proofs.Last.{last_any}
-use Rattle.list_rules.specs.Listed.{Listed}
-use Rattle.list_rules.proofs.Once.{whole_length}
 use Rattle.list_rules.proofs.points_met.Given as goal
 
 abbrev pub met : List ℕ → ℕ → Bool

@@ -1,4 +1,3 @@
-use borrow.Author.Rules.{rules}
 use Rattle.tables.specs.Data.{point}
 use Rattle.location.proofs.Walks.{by_walk, by_scan}
 use Rattle.location.proofs.locate.Goals as goal

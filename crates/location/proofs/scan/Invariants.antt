@@ -1,10 +1,8 @@
-use mathlib.Core.Path.{◌≡◌, refl, sym, ap, ◌∙◌}
+use mathlib.Core.Path.{◌≡◌}
 use Prim.Native.Nat.{◌-◌, ◌≤◌}
-use native.Mathlib.Omega.{arith}
 use Rattle.tables.specs.Data.{point}
 use Rattle.nets.specs.Layout.{net_of}
 use Rattle.nets.specs.Location.{scan}
-use Rattle.location.proofs.Walks.{in_it, not_in, scan_more, scan_found}
 use Rattle.location.proofs.scan.Given as goal
 
 abbrev pub invariant-loop-t : goal.invariant-loop-t

@@ -1,9 +1,8 @@
 use mathlib.Core.Path.{◌≡◌, refl, ◌∙◌}
-use Prim.Native.Nat.{suc, ◌+◌, ◌-◌, ◌*◌, ◌≤◌, ◌<◌}
+use Prim.Native.Nat.{suc, ◌+◌, ◌-◌, ◌≤◌}
 use native.Mathlib.Omega.{arith}
 use Rattle.tables.specs.Data.{point}
 use Rattle.nets.specs.Layout.{net_of}
-use Rattle.nets.specs.Location.{walk}
 use Rattle.location.proofs.Walks.{here, ends, on, move_low, walk_none}
 use Rattle.location.proofs.walk.Goals as goal
 use Rattle.location.proofs.walk.Goals.{After-loc_in_tri-to}

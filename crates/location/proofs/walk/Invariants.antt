@@ -1,10 +1,8 @@
-use mathlib.Core.Path.{◌≡◌, refl, ◌∙◌}
+use mathlib.Core.Path.{◌≡◌}
 use Prim.Native.Nat.{suc, ◌+◌, ◌-◌, ◌*◌, ◌≤◌, ◌<◌}
-use native.Mathlib.Omega.{arith}
 use Rattle.tables.specs.Data.{point}
 use Rattle.nets.specs.Layout.{net_of}
 use Rattle.nets.specs.Location.{walk}
-use Rattle.location.proofs.Walks.{here, ends, on, move_low, walk_none}
 use Rattle.location.proofs.walk.Given as goal
 
 abbrev pub invariant-loop-left : goal.invariant-loop-left

@@ -1,7 +1,4 @@
-use borrow.Author.Rules.{rules}
-use mathlib.Core.Path.{◌≡◌, sym, subst, ◌∙◌}
-use Prim.Native.Nat.{ℕ, ◌<◌}
-use Rattle.tables.specs.Data.{point_count, point}
+use Rattle.tables.specs.Data.{point}
 use Rattle.looks.proofs.Laws.{elsewhere, end_low, third_low, to_b, from_b, not_right, not_left, enters}
 use Rattle.looks.proofs.look.Goals as goal
 

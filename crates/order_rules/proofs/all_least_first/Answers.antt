@@ -1,13 +1,9 @@
-use borrow.Author.Rules.{rules}
 use mathlib.Core.Path.{◌≡◌, refl, sym, ap, ◌∙◌}
-use mathlib.Core.Bool.{Bool, true, false, not}
-use Prim.Native.Nat.{ℕ, ◌+◌, ◌*◌, ◌/◌, ◌-◌, ◌≤◌, ◌<◌}
+use Prim.Native.Nat.{ℕ}
 use native.Mathlib.Omega.{arith}
-use lib.ListN.{length}
 use Rattle.algebra.specs.Tests.{all_to}
 use Rattle.algebra.proofs.Tests.{all_more, all_fails}
 use Rattle.tables.specs.Rules.{triples, least_first}
-use borrow.Author.Tests.{not-true, not-false}
 use Rattle.order_rules.proofs.all_least_first.Goals as goal
 
 pub loop-t-init : goal.loop-t-init

@@ -1,13 +1,8 @@
-use borrow.Author.Rules.{rules}
-use mathlib.Core.Path.{◌≡◌, refl, sym, ap, ◌∙◌}
-use mathlib.Core.Bool.{Bool, true, false, not}
-use Prim.Native.Nat.{ℕ, ◌+◌, ◌*◌, ◌/◌, ◌-◌, ◌≤◌, ◌<◌}
-use native.Mathlib.Omega.{arith}
-use lib.ListN.{length}
+use mathlib.Core.Path.{◌≡◌}
+use mathlib.Core.Bool.{true}
+use Prim.Native.Nat.{◌-◌, ◌≤◌}
 use Rattle.algebra.specs.Tests.{all_to}
-use Rattle.algebra.proofs.Tests.{all_more, all_fails}
-use Rattle.tables.specs.Rules.{triples, least_first}
-use borrow.Author.Tests.{not-true, not-false}
+use Rattle.tables.specs.Rules.{least_first}
 use Rattle.order_rules.proofs.all_least_first.Given as goal
 
 abbrev pub invariant-loop-t : goal.invariant-loop-t

@@ -1,7 +1,4 @@
-use borrow.Author.Rules.{rules}
-use mathlib.Core.Path.{◌≡◌, sym, ap, ◌∙◌}
-use mathlib.Core.Bool.{Bool, ◌&&◌}
-use Rattle.algebra.specs.Tests.{all_to}
+use mathlib.Core.Path.{sym, ◌∙◌}
 use Rattle.tables.specs.Rules.{rule8}
 use Rattle.order_rules.proofs.house_order.Goals as goal
 

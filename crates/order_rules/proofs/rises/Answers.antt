@@ -1,4 +1,3 @@
-use mathlib.Core.Path.{◌≡◌}
 use borrow.Author.Tests.{lt-ltb, le-ltb, eq-eqb, ne_eqb}
 use Rattle.order_rules.proofs.rises.Goals as goal
 

@@ -1,7 +1,5 @@
 use Prim.Native.Nat.{◌-◌}
-use native.Mathlib.Omega.{arith}
-use Rattle.tables.specs.Refusals.{bad_pair}
-use Rattle.pair_checks.proofs.Lowest.{Searched, start, more, found, ended}
+use Rattle.pair_checks.proofs.Lowest.{start, more, found, ended}
 use Rattle.pair_checks.proofs.bad_pair.Goals as goal
 
 pub returns-then-is_bad : goal.returns-then-is_bad

@@ -1,7 +1,6 @@
 use Prim.Native.Nat.{◌-◌}
 use native.Mathlib.Omega.{arith}
-use Rattle.tables.specs.Refusals.{blocked}
-use Rattle.pair_checks.proofs.Lowest.{Searched, start, more, found, ended}
+use Rattle.pair_checks.proofs.Lowest.{start, more, found, ended}
 use Rattle.pair_checks.proofs.blocked_pair.Goals as goal
 
 pub is_blocked-requires : goal.is_blocked-requires

@@ -1,8 +1,7 @@
-use Prim.Native.Nat.{◌+◌, ◌*◌, ◌-◌}
-use native.Mathlib.Omega.{arith}
+use Prim.Native.Nat.{◌-◌}
 use Rattle.tables.specs.Data.{point}
 use Rattle.tables.specs.Refusals.{in_segment}
-use Rattle.pair_checks.proofs.Lowest.{Searched, start, more, found_any, ended_any}
+use Rattle.pair_checks.proofs.Lowest.{Searched}
 use Rattle.pair_checks.proofs.is_blocked.Given as goal
 
 abbrev pub invariant-loop-i : goal.invariant-loop-i

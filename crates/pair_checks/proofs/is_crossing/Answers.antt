@@ -1,8 +1,7 @@
 use Prim.Native.Nat.{◌+◌, ◌*◌, ◌-◌}
 use native.Mathlib.Omega.{arith}
-use Rattle.tables.specs.Data.{point, end_a, end_b}
 use Rattle.tables.specs.Refusals.{crosses}
-use Rattle.pair_checks.proofs.Lowest.{Searched, start, more, found_any, ended_any}
+use Rattle.pair_checks.proofs.Lowest.{start, more, found_any, ended_any}
 use Rattle.pair_checks.proofs.is_crossing.Goals as goal
 
 pub overflow_cast-c : goal.overflow_cast-c

@@ -1,5 +1,5 @@
 use mathlib.Core.Path.{◌≡◌, refl, ap₂, ◌∙◌, subst}
-use Prim.Native.Nat.{ℕ, ◌+◌, ◌-◌, ◌*◌, ◌≤◌, ◌<◌, min, max}
+use Prim.Native.Nat.{ℕ, ◌+◌, ◌-◌, ◌*◌, ◌<◌, min, max}
 use native.Mathlib.Omega.{arith}
 use lib.ListN.{length, get_or}
 use Rattle.tables.specs.Data.{point_count, pair_count, end_a, end_b}

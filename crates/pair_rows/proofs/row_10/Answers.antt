@@ -1,4 +1,3 @@
-use borrow.Author.Rules.{rules}
 use mathlib.Core.Path.{sym}
 use Rattle.tables.proofs.Table.{row_at_stops, row_at_passes}
 use Rattle.pair_rows.proofs.row_10.Goals as goal

@@ -1,4 +1,3 @@
-use borrow.Author.Rules.{rules}
 use mathlib.Core.Path.{sym, ap, ◌∙◌}
 use Rattle.tables.specs.Answers.{yes, row_at}
 use Rattle.tables.specs.declared.Lowest.{Lowest}

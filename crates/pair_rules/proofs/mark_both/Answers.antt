@@ -1,4 +1,3 @@
-use borrow.Author.Rules.{rules}
 use mathlib.Core.Path.{◌≡◌, sym, ap, ap₂, ◌∙◌}
 use mathlib.Core.Bool.{Bool, true, false, ◌||◌}
 use mathlib.Core.List.{List}
@@ -7,7 +6,7 @@ use lib.ListN.{length}
 use Rattle.algebra.specs.Tests.{any_to}
 use Rattle.algebra.proofs.Tests.{any_or}
 use Rattle.tables.specs.Rules.{edge_is}
-use Rattle.list_rules.specs.Listed.{Listed, Room, Painted}
+use Rattle.list_rules.specs.Listed.{Painted}
 use Rattle.pair_rules.proofs.Paint.{paint_both, painted_listed, painted_room}
 use Rattle.pair_rules.proofs.mark_both.Goals as goal
 use Rattle.pair_rules.proofs.mark_both.Goals.{After-mark-back, After-mark-there}
@@ -23,17 +22,17 @@ first c = c.mark-there.ensures.marks
 
 pub mark-back-requires : goal.mark-back-requires
 mark-back-requires c = (
-      painted_listed c.args.n c.args.list.now _ c.args.work.now c.mark-there.new.work c.requires.0 c.requires.1 (first (goal.at.mark-back-requires c).After-mark-there),
-      painted_room c.args.n c.args.list.now _ c.args.work.now c.mark-there.new.work c.requires.1 (first (goal.at.mark-back-requires c).After-mark-there),
-      c.requires.2,
-      c.requires.4,
-    )
+  painted_listed c.args.n c.args.list.now _ c.args.work.now c.mark-there.new.work c.requires.0 c.requires.1 (first (goal.at.mark-back-requires c).After-mark-there),
+  painted_room c.args.n c.args.list.now _ c.args.work.now c.mark-there.new.work c.requires.1 (first (goal.at.mark-back-requires c).After-mark-there),
+  c.requires.2,
+  c.requires.4,
+)
 
 -- after both
 both : (c : After-mark-back) → Painted c.args.n c.args.list.now (λ h. edge_is c.args.list.now h c.args.u c.args.v || edge_is
     c.args.list.now h c.args.v c.args.u) c.args.work.now c.mark-back.new.work
 both c = paint_both c.args.n c.args.list.now (λ h. edge_is c.args.list.now h c.args.u c.args.v)
-    (λ h. edge_is c.args.list.now h c.args.v c.args.u) c.args.work.now c.mark-there.new.work c.mark-back.new.work (first (record { before = c.before.before.before.before.before; type_inv = record { list = c.shared_slice_known-1.given }; })) c.mark-back.ensures.marks
+    (λ h. edge_is c.args.list.now h c.args.v c.args.u) c.args.work.now c.mark-there.new.work c.mark-back.new.work (first (record { before = c.before.before.before.before.before; type_inv = record { list = c.shared_slice_known-1.given } })) c.mark-back.ensures.marks
 
 answer : (c : After-mark-back) → (c.mark-there.result || c.mark-back.result) ≡ any_to (length c.args.list.now)
     (λ h. edge_is c.args.list.now h c.args.u c.args.v || edge_is c.args.list.now h c.args.v c.args.u)

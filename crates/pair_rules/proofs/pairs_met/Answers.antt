@@ -1,16 +1,15 @@
-use borrow.Author.Rules.{rules}
 use mathlib.Core.Path.{◌≡◌, refl, sym, ap, ◌∙◌, subst}
-use mathlib.Core.Bool.{Bool, true, false, not, ◌||◌, true≢false}
+use mathlib.Core.Bool.{Bool, true, false, true≢false}
 use mathlib.Core.List.{List}
-use Prim.Native.Nat.{ℕ, ◌+◌, ◌*◌, ◌/◌, ◌%◌, ◌-◌, ◌≤◌, ◌<◌}
+use Prim.Native.Nat.{ℕ, ◌+◌, ◌*◌, ◌%◌, ◌-◌}
 use native.Mathlib.Omega.{arith}
-use lib.ListN.{length, get_or}
+use lib.ListN.{length}
 use Rattle.algebra.specs.Tests.{all_to, any_to}
 use Rattle.algebra.proofs.Tests.{all_more, all_fails}
-use Rattle.tables.specs.Data.{pair_count, end_a, end_b}
-use Rattle.tables.specs.Rules.{triples, rule6}
-use Rattle.list_rules.specs.Listed.{Listed, Room, Painted, PairsMet}
-use Rattle.list_rules.proofs.Once.{whole_length, not_true, not_false}
+use Rattle.tables.specs.Data.{pair_count}
+use Rattle.tables.specs.Rules.{rule6}
+use Rattle.list_rules.specs.Listed.{Painted}
+use Rattle.list_rules.proofs.Once.{whole_length}
 use Rattle.pair_rules.proofs.Paint.{joins, pair_to, paint_first, paint_more, paint_marked, painted_listed, painted_room}
 use Rattle.pair_rules.proofs.pairs_met.Goals as goal
 use Rattle.pair_rules.proofs.pairs_met.Goals.{After-mark_both}

@@ -1,9 +1,7 @@
 use borrow.Author.Rules.{rules}
 use mathlib.Core.Path.{◌≡◌, refl, ap, ◌∙◌}
-use Prim.Native.Nat.{ℕ, ◌+◌, ◌-◌, ◌*◌, ◌≤◌, ◌<◌}
+use Prim.Native.Nat.{ℕ, ◌+◌, ◌-◌, ◌*◌, ◌<◌}
 use native.Mathlib.Omega.{arith}
-use mir.Syntax.{w64}
-use mir.Val.{of_z}
 use Rattle.algebra.specs.Sum.{sum_to}
 use Rattle.tables.specs.Rules.{triples, triple_area}
 use Rattle.place_rules.proofs.Base.{Corners, corners, second_low, third_low, base_area}

@@ -1,4 +1,3 @@
-use borrow.Author.Rules.{rules}
 use Rattle.place_rules.proofs.both_on.Goals as goal
 
 pub returns-then-is_flat : goal.returns-then-is_flat

@@ -1,4 +1,3 @@
-use borrow.Author.Rules.{rules}
 use lib.IntN.{ℤ}
 use mir.Syntax.{w32}
 use Rattle.plane.specs.Points.{Pt}

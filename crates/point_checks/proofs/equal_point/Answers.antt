@@ -1,7 +1,5 @@
 use Prim.Native.Nat.{◌-◌}
-use native.Mathlib.Omega.{arith}
-use Rattle.tables.specs.Refusals.{again}
-use Rattle.pair_checks.proofs.Lowest.{Searched, start, more, found, ended}
+use Rattle.pair_checks.proofs.Lowest.{start, more, found, ended}
 use Rattle.point_checks.proofs.equal_point.Goals as goal
 
 pub returns-then-seen_before : goal.returns-then-seen_before

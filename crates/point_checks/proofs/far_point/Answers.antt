@@ -1,7 +1,5 @@
 use Prim.Native.Nat.{◌-◌}
-use native.Mathlib.Omega.{arith}
-use Rattle.tables.specs.Refusals.{far}
-use Rattle.pair_checks.proofs.Lowest.{Searched, start, more, found, ended}
+use Rattle.pair_checks.proofs.Lowest.{start, more, found, ended}
 use Rattle.point_checks.proofs.far_point.Goals as goal
 
 pub returns-then-is_far : goal.returns-then-is_far

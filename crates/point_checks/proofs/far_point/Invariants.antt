@@ -1,7 +1,6 @@
 use Prim.Native.Nat.{◌-◌}
-use native.Mathlib.Omega.{arith}
 use Rattle.tables.specs.Refusals.{far}
-use Rattle.pair_checks.proofs.Lowest.{Searched, start, more, found, ended}
+use Rattle.pair_checks.proofs.Lowest.{Searched}
 use Rattle.point_checks.proofs.far_point.Given as goal
 
 abbrev pub invariant-loop-i : goal.invariant-loop-i

@@ -1,7 +1,5 @@
 use Prim.Native.Nat.{◌-◌}
-use native.Mathlib.Omega.{arith}
-use Rattle.tables.specs.Data.{point, same}
-use Rattle.pair_checks.proofs.Lowest.{Searched, start, more, found_any, ended_any}
+use Rattle.pair_checks.proofs.Lowest.{start, more, found_any, ended_any}
 use Rattle.point_checks.proofs.seen_before.Goals as goal
 
 pub returns-then-at_one_place : goal.returns-then-at_one_place

@@ -1,7 +1,6 @@
 use Prim.Native.Nat.{◌-◌}
-use native.Mathlib.Omega.{arith}
 use Rattle.tables.specs.Data.{point, same}
-use Rattle.pair_checks.proofs.Lowest.{Searched, start, more, found_any, ended_any}
+use Rattle.pair_checks.proofs.Lowest.{Searched}
 use Rattle.point_checks.proofs.seen_before.Given as goal
 
 abbrev pub invariant-loop-j : goal.invariant-loop-j

@@ -2,7 +2,7 @@ use mathlib.Core.Path.{◌≡◌, refl, ap, ◌∙◌, subst}
 use Prim.Native.Nat.{ℕ, ◌+◌, ◌-◌, ◌*◌, ◌≤◌}
 use native.Mathlib.Omega.{arith}
 use lib.IntN.{pos, nat_abs}
-use lib.ListN.{length, get_or}
+use lib.ListN.{get_or}
 use mir.Facts.{to_z-of_z}
 use mir.Syntax.{w32}
 use Rattle.signs.specs.Answers.{limit}
@@ -28,13 +28,13 @@ word-y-requires c = rw (to_z-of_z {w = w32} (record { sfits = c.word-arg-in-loop
 
 pub loop-i-preserved : goal.loop-i-preserved
 loop-i-preserved c = let s = c.args in (
-      c.loop-i.invariant.0,
-      omega arith,
-      c.set_item.auto.work ∙ c.loop-i.invariant.2,
-      filled_more s.points.now s.lo c.loop-i.i s.work.now c.loop-i.work _ _ _ c.loop-i.invariant.3 c.set_item.ensures
-          (c.word-x.ensures ∙ ap word (to_z-of_z {w = w32} (record { sfits = c.word-arg-1.given })))
-          (c.word-y.ensures ∙ ap word (to_z-of_z {w = w32} (record { sfits = c.word-arg-in-loop-i-1.given }))),
-    )
+  c.loop-i.invariant.0,
+  omega arith,
+  c.set_item.auto.work ∙ c.loop-i.invariant.2,
+  filled_more s.points.now s.lo c.loop-i.i s.work.now c.loop-i.work _ _ _ c.loop-i.invariant.3 c.set_item.ensures
+      (c.word-x.ensures ∙ ap word (to_z-of_z {w = w32} (record { sfits = c.word-arg-1.given })))
+      (c.word-y.ensures ∙ ap word (to_z-of_z {w = w32} (record { sfits = c.word-arg-in-loop-i-1.given }))),
+)
 
 pub returns : goal.returns
 returns c = let l = c.loop-i in

@@ -1,7 +1,7 @@
 use mathlib.Core.Path.{◌≡◌, refl, subst}
-use Prim.Native.Nat.{ℕ, ◌-◌, ◌≤◌, ◌<◌}
+use Prim.Native.Nat.{ℕ, ◌-◌, ◌<◌}
 use native.Mathlib.Omega.{arith}
-use lib.ListN.{length, length-set}
+use lib.ListN.{length-set}
 use Rattle.ranks.specs.Items.{number, Marked}
 use Rattle.ranks.proofs.Loops.{marked_none, marked_more, number_kept}
 use Rattle.ranks.proofs.mark.Goals as goal
@@ -36,12 +36,11 @@ pub bounds-work-i : goal.bounds-work-i
 bounds-work-i c = let h = small (goal.at.bounds-work-i c).After-slice_known-1 in let z = c.loop-k.invariant.1 in omega arith
 
 pub loop-k-preserved : goal.loop-k-preserved
-loop-k-preserved c = let l = c.loop-k in
-    (
-      omega arith,
-      simp length-set l.invariant.1,
-      marked_more c.args.work.now c.args.lo c.args.n l.k l.work c.requires.3 l.invariant.2 c.loop-k-test.true c.requires.1 (let z = l.invariant.1 in omega arith),
-    )
+loop-k-preserved c = let l = c.loop-k in (
+  omega arith,
+  simp length-set l.invariant.1,
+  marked_more c.args.work.now c.args.lo c.args.n l.k l.work c.requires.3 l.invariant.2 c.loop-k-test.true c.requires.1 (let z = l.invariant.1 in omega arith),
+)
 
 pub returns : goal.returns
 returns c = let l = c.loop-k in

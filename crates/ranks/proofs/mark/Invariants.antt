@@ -1,9 +1,7 @@
-use mathlib.Core.Path.{◌≡◌, refl, subst}
-use Prim.Native.Nat.{ℕ, ◌-◌, ◌≤◌, ◌<◌}
-use native.Mathlib.Omega.{arith}
-use lib.ListN.{length, length-set}
-use Rattle.ranks.specs.Items.{number, Marked}
-use Rattle.ranks.proofs.Loops.{marked_none, marked_more, number_kept}
+use mathlib.Core.Path.{◌≡◌}
+use Prim.Native.Nat.{◌-◌, ◌≤◌}
+use lib.ListN.{length}
+use Rattle.ranks.specs.Items.{Marked}
 use Rattle.ranks.proofs.mark.Given as goal
 
 abbrev pub invariant-loop-k : goal.invariant-loop-k

@@ -1,17 +1,10 @@
-use borrow.Author.Rules.{rules}
-use mathlib.Core.List.{List}
-use mathlib.Core.Path.{◌≡◌, refl, sym, ap, ◌∙◌, subst}
-use Prim.Native.Nat.{ℕ, ◌+◌, ◌-◌, ◌*◌, ◌/◌, ◌≤◌, ◌<◌}
+use mathlib.Core.Path.{◌≡◌, refl, ap, ◌∙◌}
+use Prim.Native.Nat.{ℕ, ◌-◌, ◌*◌}
 use native.Mathlib.Omega.{arith}
-use lib.IntN.{ℤ}
-use lib.ListN.{length}
 use Rattle.tables.specs.Data.{point_count, point, end_a, end_b}
 use Rattle.nets.specs.Layout.{net_of, Kept}
 use Rattle.chains.specs.Areas.{adj, slot_of, mark_w}
-use Rattle.chains.specs.Recoveries.{WholeW, StuckW}
-use Rattle.chains.specs.Sticking.{Leaves}
-use Rattle.carving.specs.Closing.{CanMark}
-use Rattle.recovery.specs.Lines.{Lined}
+use Rattle.chains.specs.Recoveries.{WholeW}
 use Rattle.recovery.proofs.Carved.{some, fits, h_low, can_mark, suspects_asked, flips_asked, line_in}
 use Rattle.recovery.proofs.Lines.{sticks_so}
 use Rattle.recovery.proofs.Runs.{ran_in, ran_out}

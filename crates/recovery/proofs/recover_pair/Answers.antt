@@ -1,18 +1,10 @@
-use borrow.Author.Rules.{rules}
-use mathlib.Core.List.{List}
-use mathlib.Core.Path.{◌≡◌, refl, sym, ap, ◌∙◌, subst}
-use Prim.Native.Nat.{ℕ, ◌+◌, ◌-◌, ◌*◌, ◌/◌, ◌≤◌, ◌<◌}
+use Prim.Native.Nat.{◌+◌, ◌-◌, ◌*◌, ◌<◌}
 use native.Mathlib.Omega.{arith}
-use lib.IntN.{ℤ}
-use lib.ListN.{length}
-use Rattle.plane.specs.Points.{Pt}
 use Rattle.tables.specs.Data.{point_count, point, end_a, end_b}
-use Rattle.nets.specs.Layout.{net_of, Kept}
-use Rattle.nets.specs.Nets.{Net}
+use Rattle.nets.specs.Layout.{net_of}
 use Rattle.nets.proofs.Keeps.{kept_same}
 use Rattle.chains.specs.Sticking.{Leaves}
 use Rattle.looks.specs.Around.{Told, Names, Between, Neither}
-use Rattle.recovery.specs.Lines.{Lined}
 use Rattle.recovery.proofs.Lines.{search_asked, no_way, can_mark_it, marked_edge}
 use Rattle.recovery.proofs.Runs.{told, nothing, edge_told, entry_told}
 use Rattle.recovery.proofs.recover_pair.Goals as goal

@@ -1,9 +1,7 @@
-use borrow.Author.Rules.{rules}
 use mathlib.Core.List.{List}
-use mathlib.Core.Path.{◌≡◌, refl, sym, ap, ◌∙◌, subst}
-use Prim.Native.Nat.{ℕ, suc, ◌+◌, ◌-◌, ◌*◌, ◌/◌, ◌≤◌, ◌<◌}
+use mathlib.Core.Path.{◌≡◌, ◌∙◌, subst}
+use Prim.Native.Nat.{ℕ, suc, ◌+◌, ◌-◌}
 use native.Mathlib.Omega.{arith}
-use lib.ListN.{length}
 use Rattle.tables.specs.Data.{point_count, pair_count}
 use Rattle.nets.specs.Layout.{Kept}
 use Rattle.nets.proofs.Keeps.{kept_same, kept_then}

@@ -1,15 +1,7 @@
-use borrow.Author.Rules.{rules}
-use mathlib.Core.List.{List}
-use mathlib.Core.Path.{◌≡◌, refl, sym, ap, ◌∙◌, subst}
-use Prim.Native.Nat.{ℕ, suc, ◌+◌, ◌-◌, ◌*◌, ◌/◌, ◌≤◌, ◌<◌}
-use native.Mathlib.Omega.{arith}
-use lib.ListN.{length}
+use Prim.Native.Nat.{◌-◌, ◌≤◌}
 use Rattle.tables.specs.Data.{point_count, pair_count}
 use Rattle.nets.specs.Layout.{Kept}
-use Rattle.nets.proofs.Keeps.{kept_same, kept_then}
-use Rattle.stages.specs.Stages.{Ground}
-use Rattle.recovery.specs.Lines.{Lined, Goes}
-use Rattle.recovery.specs.declared.Line.TheVariants.{In, Stuck}
+use Rattle.recovery.specs.Lines.{Lined}
 use Rattle.recovery.proofs.recover_pairs.Given as goal
 
 abbrev pub invariant-loop-k : goal.invariant-loop-k

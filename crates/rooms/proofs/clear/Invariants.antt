@@ -1,11 +1,7 @@
-use borrow.Author.Rules.{rules}
-use mathlib.Core.Path.{◌≡◌, refl, sym, ap, ◌∙◌}
-use mathlib.Core.List.{List}
-use Prim.Native.Nat.{ℕ, ◌≤◌, ◌-◌}
-use native.Mathlib.Omega.{arith}
-use lib.ListN.{length, set}
+use mathlib.Core.Path.{◌≡◌}
+use Prim.Native.Nat.{◌≤◌, ◌-◌}
+use lib.ListN.{length}
 use Rattle.tables.specs.Verdicts.{cleared}
-use Rattle.rooms.proofs.Cleared.{cleared_length, cleared_step}
 use Rattle.rooms.proofs.clear.Given as goal
 
 abbrev pub invariant-loop-i : goal.invariant-loop-i

@@ -1,7 +1,4 @@
-use borrow.Author.Rules.{rules}
-use mathlib.Core.Path.{◌≡◌, refl, sym, ap, ◌∙◌, subst}
-use native.Mathlib.Omega.{arith}
-use Rattle.rooms.proofs.Rooms.{few_out, short_out, short_yes, short_no}
+use Rattle.rooms.proofs.Rooms.{few_out, short_out}
 use Rattle.rooms.proofs.is_out_short.Goals as goal
 
 pub returns-then-n-lt3 : goal.returns-then-n-lt3

@@ -1,7 +1,5 @@
-use borrow.Author.Rules.{rules}
-use mathlib.Core.Path.{◌≡◌, refl, sym, ap, ◌∙◌, subst}
-use native.Mathlib.Omega.{arith}
-use Rattle.rooms.proofs.Rooms.{few_out, short_out, short_yes, short_no}
+use mathlib.Core.Path.{sym, ◌∙◌}
+use Rattle.rooms.proofs.Rooms.{short_yes, short_no}
 use Rattle.rooms.proofs.is_short.Goals as goal
 
 pub returns-then-is_out_short : goal.returns-then-is_out_short

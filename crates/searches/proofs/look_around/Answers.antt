@@ -1,8 +1,6 @@
-use borrow.Author.Rules.{rules}
-use Prim.Native.Nat.{ℕ, ◌*◌, ◌<◌}
+use Prim.Native.Nat.{◌*◌, ◌<◌}
 use Rattle.segments.specs.Near.{Near}
 use Rattle.tables.specs.Data.{point}
-use Rattle.tables.specs.Figures.{Figure}
 use Rattle.tables.proofs.Table.{near_list}
 use Rattle.nets.specs.Layout.{net_of}
 use Rattle.looks.specs.Around.{Open, Neither}

@@ -1,5 +1,4 @@
-use borrow.Author.Rules.{rules}
-use Prim.Native.Nat.{◌-◌, ◌*◌, ◌≤◌, ◌<◌}
+use Prim.Native.Nat.{◌-◌, ◌*◌, ◌<◌}
 use native.Mathlib.Omega.{arith}
 use Rattle.nets.proofs.Slot.{nxt_in}
 use Rattle.looks.proofs.Laws.{adj_low, before_low}
@@ -20,7 +19,7 @@ pub next-requires : goal.next-requires
 next-requires c = let l = low (goal.at.next-requires c).Else-g-eq0 in let k = c.requires.in_range.small in omega arith
 
 next_low : (c : After-next) → c.next.result < 3 * c.args.count
-next_low c = rw c.next.ensures (nxt_in (c.at-g.result - 1) c.args.count (low (record { before = c.before.before; type_inv = record { work = c.shared_slice_known-1.given }; })))
+next_low c = rw c.next.ensures (nxt_in (c.at-g.result - 1) c.args.count (low (record { before = c.before.before; type_inv = record { work = c.shared_slice_known-1.given } })))
 
 pub overflow_add-result : goal.overflow_add-result
 overflow_add-result c = let l = next_low (goal.at.overflow_add-result c).After-next in let k = c.requires.in_range.small in omega arith

@@ -1,10 +1,7 @@
-use borrow.Author.Rules.{rules}
 use Prim.Native.Nat.{ℕ, ◌-◌, ◌*◌, ◌≤◌, ◌<◌}
-use native.Mathlib.Omega.{arith}
 use Rattle.tables.specs.Data.{point}
 use Rattle.nets.specs.Layout.{net_of}
-use Rattle.looks.specs.Around.{Passed, Neither}
-use Rattle.looks.proofs.Laws.{named, passed_on, none}
+use Rattle.looks.specs.Around.{Passed}
 use Rattle.searches.proofs.scan.Given as goal
 
 abbrev pub invariant-loop-h : goal.invariant-loop-h

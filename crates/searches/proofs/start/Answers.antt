@@ -1,4 +1,3 @@
-use borrow.Author.Rules.{rules}
 use Rattle.looks.proofs.Laws.{starts_0, starts_1, starts_2}
 use Rattle.searches.proofs.start.Goals as goal
 

@@ -1,6 +1,3 @@
-use borrow.Author.Rules.{rules}
-use Prim.Native.Nat.{◌*◌, ◌<◌}
-use native.Mathlib.Omega.{arith}
 use Rattle.tables.specs.Data.{point}
 use Rattle.nets.specs.Layout.{net_of}
 use Rattle.looks.specs.Around.{Passed, Open}

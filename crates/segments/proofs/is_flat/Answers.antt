@@ -1,4 +1,3 @@
-use borrow.Author.Rules.{rules}
 use Rattle.segments.proofs.SignTests.{zero_told}
 use Rattle.segments.proofs.is_flat.Goals as goal
 

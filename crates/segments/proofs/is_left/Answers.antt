@@ -1,4 +1,3 @@
-use borrow.Author.Rules.{rules}
 use Rattle.segments.proofs.SignTests.{pos_told}
 use Rattle.segments.proofs.is_left.Goals as goal
 

@@ -1,4 +1,3 @@
-use borrow.Author.Rules.{rules}
 use Rattle.segments.proofs.SignTests.{neg_told}
 use Rattle.segments.proofs.is_right.Goals as goal
 

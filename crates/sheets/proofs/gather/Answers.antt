@@ -1,8 +1,6 @@
 use mathlib.Core.Path.{◌≡◌, refl, ◌∙◌}
-use Prim.Native.Nat.{◌-◌, ◌≤◌}
+use Prim.Native.Nat.{◌-◌}
 use native.Mathlib.Omega.{arith}
-use lib.ListN.{length}
-use Rattle.sheets.specs.Steps.{Gathered}
 use Rattle.sheets.proofs.Steps.{gathered_none, gathered_more}
 use Rattle.sheets.proofs.gather.Goals as goal
 

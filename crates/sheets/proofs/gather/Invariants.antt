@@ -1,9 +1,7 @@
-use mathlib.Core.Path.{◌≡◌, refl, ◌∙◌}
+use mathlib.Core.Path.{◌≡◌}
 use Prim.Native.Nat.{◌-◌, ◌≤◌}
-use native.Mathlib.Omega.{arith}
 use lib.ListN.{length}
 use Rattle.sheets.specs.Steps.{Gathered}
-use Rattle.sheets.proofs.Steps.{gathered_none, gathered_more}
 use Rattle.sheets.proofs.gather.Given as goal
 
 abbrev pub invariant-loop-t : goal.invariant-loop-t

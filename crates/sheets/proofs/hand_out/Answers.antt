@@ -1,8 +1,7 @@
 use mathlib.Core.Path.{◌≡◌, refl, ◌∙◌}
-use Prim.Native.Nat.{◌-◌, ◌≤◌}
+use Prim.Native.Nat.{◌-◌}
 use native.Mathlib.Omega.{arith}
-use lib.ListN.{length, length-set}
-use Rattle.sheets.specs.Steps.{Copied}
+use lib.ListN.{length-set}
 use Rattle.sheets.proofs.Steps.{copied_none, copied_more}
 use Rattle.sheets.proofs.hand_out.Goals as goal
 

@@ -1,9 +1,7 @@
-use mathlib.Core.Path.{◌≡◌, refl, ◌∙◌}
+use mathlib.Core.Path.{◌≡◌}
 use Prim.Native.Nat.{◌-◌, ◌≤◌}
-use native.Mathlib.Omega.{arith}
-use lib.ListN.{length, length-set}
+use lib.ListN.{length}
 use Rattle.sheets.specs.Steps.{Copied}
-use Rattle.sheets.proofs.Steps.{copied_none, copied_more}
 use Rattle.sheets.proofs.hand_out.Given as goal
 
 abbrev pub invariant-loop-k : goal.invariant-loop-k

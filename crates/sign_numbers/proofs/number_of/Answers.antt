@@ -1,4 +1,3 @@
-use borrow.Author.Rules.{rules}
 use mathlib.Core.Path.{sym, ap, ◌∙◌}
 use Rattle.signs.specs.Answers.{wholeNumber}
 use Rattle.sign_numbers.proofs.Numbers.{number_read}

@@ -9,7 +9,6 @@ use Rattle.algebra.proofs.Size.{all}
 use Rattle.plane.specs.Determinants.{incircle}
 use Rattle.plane.proofs.Polynomials.{incircle_e, on4}
 use Rattle.signs.specs.Answers.{limit}
-use Rattle.signs.proofs.circle_det.Reads as reads
 use Rattle.signs.proofs.circle_det.Goals as goal
 use Rattle.signs.proofs.circle_det.Goals.{Start}
 

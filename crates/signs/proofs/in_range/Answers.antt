@@ -1,9 +1,7 @@
-use borrow.Author.Rules.{rules}
 use mathlib.Core.Path.{◌≡◌, ap, ◌∙◌, subst}
-use mathlib.Core.Bool.{Bool, true, false}
+use mathlib.Core.Bool.{true, false}
 use lib.IntN.{ℤ, pos, negsuc}
 use lib.Signed.{lt_z, le_z}
-use mir.Syntax.{w32}
 use mir.Facts.{to_z-of_z}
 use Rattle.signs.proofs.Range.{beyond_below, not_below}
 use Rattle.signs.proofs.in_range.Goals as goal

@@ -9,7 +9,6 @@ use Rattle.algebra.proofs.Size.{all}
 use Rattle.plane.specs.Determinants.{orient}
 use Rattle.plane.proofs.Polynomials.{orient_e, on3}
 use Rattle.signs.specs.Answers.{limit}
-use Rattle.signs.proofs.orient_det.Reads as reads
 use Rattle.signs.proofs.orient_det.Goals as goal
 use Rattle.signs.proofs.orient_det.Goals.{Start}
 

@@ -1,5 +1,4 @@
-use borrow.Author.Rules.{rules}
-use mathlib.Core.Path.{◌≡◌, sym, ap, ◌∙◌, subst}
+use mathlib.Core.Path.{◌≡◌, sym, ap, ◌∙◌}
 use mathlib.Core.Bool.{Bool, true, false}
 use mathlib.Core.List.{List, [], ◌∷◌}
 use lib.IntN.{ℤ}

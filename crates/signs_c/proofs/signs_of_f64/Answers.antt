@@ -1,4 +1,3 @@
-use borrow.Author.Rules.{rules}
 use mathlib.Core.Path.{ap, ◌∙◌}
 use Rattle.signs.specs.Signs.{number}
 use Rattle.sign_numbers.proofs.Numbers.{number_read}

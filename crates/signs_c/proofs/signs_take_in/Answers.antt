@@ -1,6 +1,5 @@
 use borrow.Author.Rules.{rules}
-use mathlib.Core.Path.{◌≡◌, sym, ap, ◌∙◌}
-use lib.IntN.{ℤ}
+use mathlib.Core.Path.{sym, ap, ◌∙◌}
 use mir.Syntax.{w32}
 use mir.Facts.{to_z-of_z}
 use mir.Val.{SFits}

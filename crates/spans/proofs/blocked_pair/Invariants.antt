@@ -1,7 +1,6 @@
 use Prim.Native.Nat.{◌-◌}
-use native.Mathlib.Omega.{arith}
 use Rattle.tables.specs.Refusals.{blocked}
-use Rattle.pair_checks.proofs.Lowest.{Searched, start, more, found, ended}
+use Rattle.pair_checks.proofs.Lowest.{Searched}
 use Rattle.spans.proofs.blocked_pair.Given as goal
 
 abbrev pub invariant-loop-k : goal.invariant-loop-k

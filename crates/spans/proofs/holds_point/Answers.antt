@@ -1,7 +1,7 @@
 use Prim.Native.Nat.{◌-◌}
 use native.Mathlib.Omega.{arith}
 use Rattle.tables.proofs.Table.{near_list}
-use Rattle.spans.proofs.Between.{Tried, next, found, ended}
+use Rattle.spans.proofs.Between.{next, found, ended}
 use Rattle.spans.proofs.holds_point.Goals as goal
 
 pub overflow_cast-i : goal.overflow_cast-i

@@ -1,7 +1,5 @@
 use Prim.Native.Nat.{◌-◌}
-use native.Mathlib.Omega.{arith}
-use Rattle.tables.proofs.Table.{near_list}
-use Rattle.spans.proofs.Between.{Tried, next, found, ended}
+use Rattle.spans.proofs.Between.{Tried}
 use Rattle.spans.proofs.holds_point.Given as goal
 
 abbrev pub invariant-loop-r : goal.invariant-loop-r

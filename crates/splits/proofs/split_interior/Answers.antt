@@ -1,4 +1,3 @@
-use borrow.Author.Rules.{rules}
 use native.Mathlib.Omega.{arith}
 use Rattle.splits.proofs.Written.{inside_written}
 use Rattle.splits.proofs.split_interior.Goals as goal

@@ -1,4 +1,3 @@
-use borrow.Author.Rules.{rules}
 use Rattle.splits.proofs.Written.{side_written}
 use Rattle.splits.proofs.split_side.Goals as goal
 

@@ -1,8 +1,6 @@
-use borrow.Author.Rules.{rules}
 use Rattle.tables.proofs.Table.{near_list}
 use Rattle.splitting.proofs.Splits.{in_range, numbered, inside_asked, side_asked, edge_asked, edge_low, half_asked, across_low, at_inside, at_side, at_edge}
-use mathlib.Core.Path.{◌≡◌, refl, sym, ap, ◌∙◌, subst}
-use Prim.Native.Nat.{ℕ, suc, ◌+◌, ◌-◌, ◌*◌, ◌/◌}
+use Prim.Native.Nat.{◌-◌}
 use native.Mathlib.Omega.{arith}
 use Rattle.splitting.proofs.split_at.Goals as goal
 

@@ -1,9 +1,6 @@
-use borrow.Author.Rules.{rules}
 use mathlib.Core.Bool.{Bool, cond}
 use Rattle.splitting.specs.Splits.{edge_pushed}
-use mathlib.Core.Path.{◌≡◌, refl, sym, ap, ◌∙◌, subst}
-use Prim.Native.Nat.{ℕ, suc, ◌+◌, ◌*◌, ◌/◌}
-use native.Mathlib.Omega.{arith}
+use mathlib.Core.Path.{sym, ap, ◌∙◌}
 use Rattle.splitting.proofs.split_edge.Goals as goal
 
 pub returns-then-earlier : goal.returns-then-earlier

@@ -1,7 +1,3 @@
-use borrow.Author.Rules.{rules}
-use mathlib.Core.Path.{◌≡◌, refl, sym, ap, ◌∙◌, subst}
-use Prim.Native.Nat.{ℕ, suc, ◌+◌, ◌*◌, ◌/◌}
-use native.Mathlib.Omega.{arith}
 use Rattle.splitting.specs.Splits.{inside_pushed}
 use Rattle.splitting.proofs.split_interior.Goals as goal
 

@@ -1,4 +1,3 @@
-use borrow.Author.Rules.{rules}
 use native.Mathlib.Omega.{arith}
 use Rattle.steps.proofs.Written.{flip_written}
 use Rattle.steps.proofs.flip.Goals as goal

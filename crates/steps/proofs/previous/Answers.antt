@@ -1,4 +1,3 @@
-use borrow.Author.Rules.{rules}
 use native.Mathlib.Omega.{arith}
 use Rattle.plane.specs.Halfedges.{nxt}
 use Rattle.steps.proofs.previous.Goals as goal

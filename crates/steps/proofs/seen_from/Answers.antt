@@ -1,4 +1,3 @@
-use borrow.Author.Rules.{rules}
 use native.Mathlib.Omega.{arith}
 use Rattle.steps.proofs.Laws.{near, seen_read, seen_low}
 use Rattle.steps.proofs.seen_from.Goals as goal

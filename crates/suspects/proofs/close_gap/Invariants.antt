@@ -1,8 +1,5 @@
-use Prim.Native.Nat.{ℕ, ◌+◌, ◌-◌, ◌≤◌, ◌<◌}
-use mathlib.Core.Path.{◌≡◌, subst}
-use native.Mathlib.Omega.{arith}
+use Prim.Native.Nat.{◌+◌, ◌-◌, ◌≤◌, ◌<◌}
 use Rattle.suspects.specs.Stack.{Closed}
-use Rattle.suspects.proofs.Stack.{closed_start, closed_more}
 use Rattle.suspects.proofs.close_gap.Given as goal
 
 abbrev pub invariant-loop-j : goal.invariant-loop-j

@@ -1,8 +1,5 @@
-use mathlib.Core.Path.{◌≡◌}
-use Prim.Native.Nat.{ℕ, ◌+◌, ◌-◌, ◌*◌, ◌≤◌, ◌<◌}
+use Prim.Native.Nat.{◌+◌, ◌-◌, ◌*◌}
 use native.Mathlib.Omega.{arith}
-use lib.ListN.{get_or}
-use Rattle.nets.specs.Layout.{stack_cell}
 use Rattle.suspects.proofs.Stack.{placed_start, placed_down}
 use Rattle.suspects.proofs.find.Goals as goal
 

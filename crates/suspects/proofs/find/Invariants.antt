@@ -1,9 +1,7 @@
 use mathlib.Core.Path.{◌≡◌}
-use Prim.Native.Nat.{ℕ, ◌+◌, ◌-◌, ◌*◌, ◌≤◌, ◌<◌}
-use native.Mathlib.Omega.{arith}
+use Prim.Native.Nat.{ℕ, ◌-◌, ◌≤◌, ◌<◌}
 use lib.ListN.{get_or}
 use Rattle.nets.specs.Layout.{stack_cell}
-use Rattle.suspects.proofs.Stack.{placed_start, placed_down}
 use Rattle.suspects.proofs.find.Given as goal
 
 abbrev pub invariant-loop-i : goal.invariant-loop-i

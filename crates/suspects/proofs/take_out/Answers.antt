@@ -1,4 +1,3 @@
-use borrow.Author.Rules.{rules}
 use Rattle.suspects.proofs.Stack.{left_unflagged, left_unplaced, left_closed}
 use Rattle.suspects.proofs.take_out.Goals as goal
 

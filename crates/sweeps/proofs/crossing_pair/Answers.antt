@@ -1,4 +1,3 @@
-use borrow.Author.Rules.{rules}
 use native.Mathlib.Omega.{arith}
 use Rattle.sweeps.proofs.Least.{at_least, at_none}
 use Rattle.sweeps.proofs.crossing_pair.Goals as goal

@@ -1,6 +1,5 @@
-use Prim.Native.Nat.{◌-◌, ◌≤◌, ◌<◌}
+use Prim.Native.Nat.{◌-◌}
 use native.Mathlib.Omega.{arith}
-use Rattle.sweeps.specs.Least.{Together}
 use Rattle.sweeps.proofs.Least.{together_one, together_more}
 use Rattle.sweeps.proofs.group_end.Goals as goal
 

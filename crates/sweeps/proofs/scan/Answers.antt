@@ -1,11 +1,11 @@
 use mathlib.Core.List.{List}
-use Prim.Native.Nat.{ℕ, ◌+◌, ◌-◌, ◌*◌, ◌≤◌, ◌<◌}
+use Prim.Native.Nat.{ℕ, ◌+◌, ◌-◌, ◌*◌, ◌<◌}
 use native.Mathlib.Omega.{arith}
 use lib.IntN.{ℤ}
 use Rattle.tables.specs.Data.{pair_count}
 use Rattle.tables.proofs.Table.{near_list}
 use Rattle.pair_orders.specs.Rows.{number}
-use Rattle.sweeps.proofs.Least.{State, state_start, state_more, state_end, tried_none}
+use Rattle.sweeps.proofs.Least.{state_start, state_more, state_end, tried_none}
 use Rattle.sweeps.proofs.scan.Goals as goal
 use Rattle.sweeps.proofs.scan.Goals.{Start}
 
@@ -42,19 +42,19 @@ overflow_cast-b c = omega (arith, c.type_inv.pairs (2 * number (w (goal.at.overf
 
 pub loop-q-init : goal.loop-q-init
 loop-q-init c = (
-      omega arith,
-      omega arith,
-      state_start (ps (goal.at.loop-q-init c).Start) (qs (goal.at.loop-q-init c).Start) c.requires.figure c.requires.ends c.args.at (w (goal.at.loop-q-init c).Start) c.requires.row c.args.p c.args.first c.args.least (omega arith)
-          c.requires.pairs_in_bounds.3 c.requires.found c.if-least-j.false,
-    )
+  omega arith,
+  omega arith,
+  state_start (ps (goal.at.loop-q-init c).Start) (qs (goal.at.loop-q-init c).Start) c.requires.figure c.requires.ends c.args.at (w (goal.at.loop-q-init c).Start) c.requires.row c.args.p c.args.first c.args.least (omega arith)
+      c.requires.pairs_in_bounds.3 c.requires.found c.if-least-j.false,
+)
 
 pub returns-then-end-work : goal.returns-then-end-work
 returns-then-end-work c = let o = c.loop-q.invariant.2 in (
-      o.found,
-      o.low,
-      state_end (ps (goal.at.returns-then-end-work c).Start) (qs (goal.at.returns-then-end-work c).Start) c.requires.figure c.requires.ends c.args.at (w (goal.at.returns-then-end-work c).Start) c.requires.row c.args.p c.loop-q.q c.args.least c.loop-q.kept
-          c.loop-q.invariant.0 (λ _. c.if-end-work.true) o,
-    )
+  o.found,
+  o.low,
+  state_end (ps (goal.at.returns-then-end-work c).Start) (qs (goal.at.returns-then-end-work c).Start) c.requires.figure c.requires.ends c.args.at (w (goal.at.returns-then-end-work c).Start) c.requires.row c.args.p c.loop-q.q c.args.least c.loop-q.kept
+      c.loop-q.invariant.0 (λ _. c.if-end-work.true) o,
+)
 
 pub overflow_cast-k : goal.overflow_cast-k
 overflow_cast-k c = omega (arith, c.type_inv.work (c.args.at + 3 * c.loop-q.q + 2))
@@ -68,19 +68,19 @@ lowered-kept-requires c = let j = j-small (goal.at.lowered-kept-requires c).Star
 
 pub loop-q-preserved : goal.loop-q-preserved
 loop-q-preserved c = (
-      omega arith,
-      omega arith,
-      state_more (ps (goal.at.loop-q-preserved c).Start) (qs (goal.at.loop-q-preserved c).Start) c.requires.figure c.requires.ends c.args.at (w (goal.at.loop-q-preserved c).Start) c.requires.row c.args.p c.loop-q.q c.args.least c.loop-q.kept
-          c.loop-q.invariant.0 c.loop-q-test.true c.loop-q.invariant.2 _ c.lowered-kept.ensures,
-    )
+  omega arith,
+  omega arith,
+  state_more (ps (goal.at.loop-q-preserved c).Start) (qs (goal.at.loop-q-preserved c).Start) c.requires.figure c.requires.ends c.args.at (w (goal.at.loop-q-preserved c).Start) c.requires.row c.args.p c.loop-q.q c.args.least c.loop-q.kept
+      c.loop-q.invariant.0 c.loop-q-test.true c.loop-q.invariant.2 _ c.lowered-kept.ensures,
+)
 
 pub returns : goal.returns
 returns c = let o = c.loop-q.invariant.2 in (
-      o.found,
-      o.low,
-      state_end (ps (goal.at.returns c).Start) (qs (goal.at.returns c).Start) c.requires.figure c.requires.ends c.args.at (w (goal.at.returns c).Start) c.requires.row c.args.p c.loop-q.q c.args.least c.loop-q.kept
-          c.loop-q.invariant.0 (λ h. absurd (let z = c.loop-q-test.false in omega arith)) o,
-    )
+  o.found,
+  o.low,
+  state_end (ps (goal.at.returns c).Start) (qs (goal.at.returns c).Start) c.requires.figure c.requires.ends c.args.at (w (goal.at.returns c).Start) c.requires.row c.args.p c.loop-q.q c.args.least c.loop-q.kept
+      c.loop-q.invariant.0 (λ h. absurd (let z = c.loop-q-test.false in omega arith)) o,
+)
 
 pub overflow_mul-a : goal.overflow_mul-a
 overflow_mul-a c = omega (arith, j-small (goal.at.overflow_mul-a c).Start)

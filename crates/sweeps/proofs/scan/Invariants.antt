@@ -1,11 +1,5 @@
-use mathlib.Core.List.{List}
-use Prim.Native.Nat.{ℕ, ◌+◌, ◌-◌, ◌*◌, ◌≤◌, ◌<◌}
-use native.Mathlib.Omega.{arith}
-use lib.IntN.{ℤ}
-use Rattle.tables.specs.Data.{pair_count}
-use Rattle.tables.proofs.Table.{near_list}
-use Rattle.pair_orders.specs.Rows.{number}
-use Rattle.sweeps.proofs.Least.{State, state_start, state_more, state_end, tried_none}
+use Prim.Native.Nat.{◌-◌, ◌≤◌, ◌<◌}
+use Rattle.sweeps.proofs.Least.{State}
 use Rattle.sweeps.proofs.scan.Given as goal
 
 abbrev pub invariant-loop-q : goal.invariant-loop-q

@@ -1,19 +1,19 @@
 use mathlib.Core.Path.{◌≡◌, subst}
-use Prim.Native.Nat.{ℕ, ◌-◌, ◌≤◌}
+use Prim.Native.Nat.{ℕ, ◌-◌}
 use native.Mathlib.Omega.{arith}
 use Rattle.tables.specs.Data.{pair_count}
-use Rattle.sweeps.specs.Least.{Found, Swept, Together}
+use Rattle.sweeps.specs.Least.{Swept}
 use Rattle.sweeps.proofs.Least.{together_next, found_none, swept_none, swept_more}
 use Rattle.sweeps.proofs.sweep.Goals as goal
 
 pub loop-p-init : goal.loop-p-init
 loop-p-init c = let s = c.args in (
-      omega arith,
-      omega arith,
-      λ t h g. absurd (omega arith),
-      found_none s.points.now s.pairs.now,
-      swept_none s.points.now s.pairs.now s.at s.work.now _,
-    )
+  omega arith,
+  omega arith,
+  λ t h g. absurd (omega arith),
+  found_none s.points.now s.pairs.now,
+  swept_none s.points.now s.pairs.now s.at s.work.now _,
+)
 
 pub group_end-end-requires : goal.group_end-end-requires
 group_end-end-requires c = let i = c.loop-p.invariant in (c.requires.pairs_in_bounds, c.loop-p-test.true, i.1, i.2)

@@ -1,9 +1,5 @@
-use mathlib.Core.Path.{◌≡◌, subst}
-use Prim.Native.Nat.{ℕ, ◌-◌, ◌≤◌}
-use native.Mathlib.Omega.{arith}
-use Rattle.tables.specs.Data.{pair_count}
+use Prim.Native.Nat.{◌-◌, ◌≤◌}
 use Rattle.sweeps.specs.Least.{Found, Swept, Together}
-use Rattle.sweeps.proofs.Least.{together_next, found_none, swept_none, swept_more}
 use Rattle.sweeps.proofs.sweep.Given as goal
 
 abbrev pub invariant-loop-p : goal.invariant-loop-p

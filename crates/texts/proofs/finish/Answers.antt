@@ -1,4 +1,3 @@
-use borrow.Author.Rules.{rules}
 use mathlib.Core.Path.{sym, ap, ◌∙◌}
 use Rattle.texts.specs.Figures.{ended}
 use Rattle.texts.proofs.finish.Goals as goal

@@ -1,4 +1,3 @@
-use borrow.Author.Rules.{rules}
 use mathlib.Core.Path.{sym}
 use Rattle.texts.proofs.Words.{capped_low, capped_high}
 use Rattle.texts.proofs.more.Goals as goal

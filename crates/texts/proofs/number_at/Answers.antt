@@ -1,6 +1,4 @@
-use borrow.Author.Rules.{rules}
 use mathlib.Core.Path.{sym, ◌∙◌}
-use Prim.Native.Nat.{◌-◌}
 use Rattle.texts.proofs.Numbers.{number_short, number_not, number_big, number_is}
 use Rattle.texts.proofs.number_at.Goals as goal
 

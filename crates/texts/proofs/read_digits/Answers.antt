@@ -1,8 +1,6 @@
-use borrow.Author.Rules.{rules}
 use mathlib.Core.Path.{sym, ◌∙◌}
-use Prim.Native.Nat.{◌≤◌, ◌-◌}
 use native.Mathlib.Omega.{arith}
-use Rattle.texts.proofs.Words.{Read, read_none, read_more, read_small, fails_is, value_is, digit_from, digit_to}
+use Rattle.texts.proofs.Words.{read_none, read_more, read_small, fails_is, value_is, digit_from, digit_to}
 use Rattle.texts.proofs.read_digits.Goals as goal
 
 pub loop-i-init : goal.loop-i-init

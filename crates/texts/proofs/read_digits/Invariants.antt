@@ -1,8 +1,5 @@
-use borrow.Author.Rules.{rules}
-use mathlib.Core.Path.{sym, ◌∙◌}
 use Prim.Native.Nat.{◌≤◌, ◌-◌}
-use native.Mathlib.Omega.{arith}
-use Rattle.texts.proofs.Words.{Read, read_none, read_more, read_small, fails_is, value_is, digit_from, digit_to}
+use Rattle.texts.proofs.Words.{Read}
 use Rattle.texts.proofs.read_digits.Given as goal
 
 abbrev pub invariant-loop-i : goal.invariant-loop-i

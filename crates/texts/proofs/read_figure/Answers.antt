@@ -1,4 +1,3 @@
-use borrow.Author.Rules.{rules}
 use mathlib.Core.Path.{sym, ◌∙◌}
 use Rattle.texts.proofs.Figures.{figure_first, figure_second, figure_rest}
 use Rattle.texts.proofs.read_figure.Goals as goal

@@ -1,16 +1,8 @@
-use borrow.Author.Rules.{rules}
-use mathlib.Core.Path.{◌≡◌, refl, sym, ap, ◌∙◌}
+use mathlib.Core.Path.{◌≡◌}
 use mathlib.Core.Bool.{true}
-use mathlib.Core.List.{List}
-use Prim.Native.Nat.{ℕ, ◌+◌, ◌<◌, ◌-◌}
-use native.Mathlib.Omega.{arith}
-use lib.ListN.{length, set, length-set}
-use Rattle.texts.specs.Words.{next_word}
-use Rattle.texts.specs.Figures.{taken, read_all, put_points}
-use Rattle.texts.specs.declared.Step.{Step}
-use Rattle.texts.specs.declared.Step.TheVariants.{Taken, Stop}
-use lib.IntN.{ℤ}
-use Rattle.texts.proofs.Figures as laws
+use Prim.Native.Nat.{◌-◌}
+use lib.ListN.{length}
+use Rattle.texts.specs.Figures.{read_all, put_points}
 use Rattle.texts.proofs.read_points.Given as goal
 
 abbrev pub invariant-loop-p : goal.invariant-loop-p

@@ -1,4 +1,3 @@
-use borrow.Author.Rules.{rules}
 use mathlib.Core.Path.{refl, sym, ◌∙◌}
 use Rattle.texts.proofs.Figures.{rest_points, rest_pairs, rest_done, rest_fault, same_outcome}
 use Rattle.texts.proofs.read_rest.Goals as goal

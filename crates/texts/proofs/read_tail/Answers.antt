@@ -1,4 +1,3 @@
-use borrow.Author.Rules.{rules}
 use mathlib.Core.Path.{sym, ◌∙◌}
 use Rattle.texts.proofs.Figures.{tail_done, tail_fault}
 use Rattle.texts.proofs.read_tail.Goals as goal

@@ -1,4 +1,3 @@
-use borrow.Author.Rules.{rules}
 use mathlib.Core.Path.{sym, ap, ◌∙◌}
 use Rattle.texts.specs.Figures.{taken}
 use Rattle.texts.proofs.Figures.{taken_yes, taken_no}

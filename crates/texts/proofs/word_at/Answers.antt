@@ -1,4 +1,3 @@
-use borrow.Author.Rules.{rules}
 use mathlib.Core.Path.{◌∙◌}
 use Rattle.texts.proofs.Numbers.{word_minus, word_plain}
 use Rattle.texts.proofs.word_at.Goals as goal

@@ -1,9 +1,7 @@
-use borrow.Author.Rules.{rules}
-use mathlib.Core.Path.{◌≡◌, refl, sym, ◌∙◌}
-use Prim.Native.Nat.{◌≤◌, ◌-◌}
+use mathlib.Core.Path.{refl, sym, ◌∙◌}
 use native.Mathlib.Omega.{arith}
 use lib.ListN.{length}
-use Rattle.texts.specs.Words.{is_space, word_end}
+use Rattle.texts.specs.Words.{is_space}
 use Rattle.texts.proofs.Words.{first_here, first_later, first_end}
 use Rattle.texts.proofs.word_end.Goals as goal
 

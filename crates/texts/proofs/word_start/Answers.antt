@@ -1,9 +1,6 @@
-use borrow.Author.Rules.{rules}
-use mathlib.Core.Path.{◌≡◌, refl, sym, ◌∙◌}
-use Prim.Native.Nat.{◌-◌}
-use native.Mathlib.Omega.{arith}
+use mathlib.Core.Path.{refl, sym, ◌∙◌}
 use lib.ListN.{length}
-use Rattle.texts.specs.Words.{is_black, word_start}
+use Rattle.texts.specs.Words.{is_black}
 use Rattle.texts.proofs.Words.{black, not_black, first_here, first_later, first_end}
 use Rattle.texts.proofs.word_start.Goals as goal
 

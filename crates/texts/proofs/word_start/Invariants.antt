@@ -1,10 +1,7 @@
-use borrow.Author.Rules.{rules}
-use mathlib.Core.Path.{◌≡◌, refl, sym, ◌∙◌}
+use mathlib.Core.Path.{◌≡◌}
 use Prim.Native.Nat.{◌-◌}
-use native.Mathlib.Omega.{arith}
 use lib.ListN.{length}
-use Rattle.texts.specs.Words.{is_black, word_start}
-use Rattle.texts.proofs.Words.{black, not_black, first_here, first_later, first_end}
+use Rattle.texts.specs.Words.{word_start}
 use Rattle.texts.proofs.word_start.Given as goal
 
 abbrev pub invariant-loop-i : goal.invariant-loop-i

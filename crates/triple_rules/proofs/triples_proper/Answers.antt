@@ -1,14 +1,14 @@
 use mathlib.Core.Path.{◌≡◌, refl, sym, ap, ◌∙◌}
-use mathlib.Core.Bool.{Bool, true}
+use mathlib.Core.Bool.{true}
 use mathlib.Core.List.{List}
 use Prim.Native.Nat.{ℕ, ◌+◌, ◌-◌, ◌*◌, ◌≤◌}
 use native.Mathlib.Omega.{arith}
-use borrow.Author.Tests.{le-leb, lt-leb, not-true, not-false}
+use borrow.Author.Tests.{le-leb, lt-leb}
 use lib.IntN.{ℤ}
 use Rattle.algebra.specs.Tests.{all_to}
 use Rattle.algebra.proofs.Tests.{all_more, all_fails}
 use Rattle.tables.specs.Data.{point_count}
-use Rattle.tables.specs.Rules.{corner, triples, proper_triple, rule1}
+use Rattle.tables.specs.Rules.{triples, rule1}
 use Rattle.triple_rules.proofs.triples_proper.Goals as goal
 use Rattle.triple_rules.proofs.triples_proper.Invariants.{good}
 

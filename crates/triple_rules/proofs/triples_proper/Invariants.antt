@@ -1,14 +1,10 @@
-use mathlib.Core.Path.{◌≡◌, refl, sym, ap, ◌∙◌}
+use mathlib.Core.Path.{◌≡◌}
 use mathlib.Core.Bool.{Bool, true}
 use mathlib.Core.List.{List}
 use Prim.Native.Nat.{ℕ, ◌+◌, ◌-◌, ◌*◌, ◌≤◌}
-use native.Mathlib.Omega.{arith}
-use borrow.Author.Tests.{le-leb, lt-leb, not-true, not-false}
 use lib.IntN.{ℤ}
 use Rattle.algebra.specs.Tests.{all_to}
-use Rattle.algebra.proofs.Tests.{all_more, all_fails}
-use Rattle.tables.specs.Data.{point_count}
-use Rattle.tables.specs.Rules.{corner, triples, proper_triple, rule1}
+use Rattle.tables.specs.Rules.{corner, proper_triple}
 use Rattle.triple_rules.proofs.triples_proper.Given as goal
 
 abbrev pub good : List ℤ → List ℕ → ℕ → Bool

@@ -1,4 +1,3 @@
-use borrow.Author.Rules.{rules}
 use Rattle.turns.proofs.Moves.{slot_sum}
 use Rattle.turns.proofs.over.Goals as goal
 

@@ -1,4 +1,3 @@
-use borrow.Author.Rules.{rules}
 use Rattle.tables.specs.Data.{point}
 use Rattle.tables.specs.Rules.{rank}
 use Rattle.nets.specs.Layout.{net_of}

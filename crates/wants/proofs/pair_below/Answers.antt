@@ -1,4 +1,3 @@
-use borrow.Author.Rules.{rules}
 use Rattle.wants.proofs.Cases.{pair_tied, pair_apart}
 use Rattle.wants.proofs.pair_below.Goals as goal
 

@@ -1,4 +1,3 @@
-use borrow.Author.Rules.{rules}
 use Rattle.wants.proofs.Cases.{marked, single, far_in, Seen, seen_near, seen_corners, seen_ranks, seen_inside, seen_outside, seen_tied}
 use Rattle.wants.proofs.tries.Goals as goal
 use Rattle.wants.proofs.tries.Goals.{After-far_corner-d}

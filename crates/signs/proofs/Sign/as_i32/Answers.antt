@@ -1,4 +1,3 @@
-use borrow.Author.Rules.{rules}
 use mathlib.Core.Path.{sym, ap}
 use Rattle.signs.specs.Signs.{number}
 use Rattle.signs.proofs.Sign.as_i32.Goals as goal

@@ -1,11 +1,10 @@
-use mathlib.Core.Path.{◌≡◌, sym, subst}
-use mathlib.Core.Bool.{Bool, true, false}
+use mathlib.Core.Path.{◌≡◌, subst}
+use mathlib.Core.Bool.{true, false}
 use lib.IntN.{ℤ, pos}
 use lib.Signed.{lt_z}
 use mir.Syntax.{w64}
 use mir.ValLaws.{to_z-of_z}
-use lib.Ieee.{of_bits}
-use Rattle.signs.proofs.Signed.{sign_above, sign_below, sign_neither, sign_z_above, sign_z_below, sign_z_neither}
+use Rattle.signs.proofs.Signed.{sign_z_above, sign_z_below, sign_z_neither}
 use Rattle.signs.proofs.Sign.of_i64.Goals as goal
 
 pub returns-then-n-gt0 : goal.returns-then-n-gt0
