@@ -10,7 +10,6 @@ use requests::reading::Reading;
 use std::env::Env;
 use std::fs::File;
 use std::io::{Error, ErrorKind, Read};
-use std::process::ExitCode;
 use std::{fs, io};
 use texts::{Progress, Step, Word};
 
@@ -71,18 +70,14 @@ fn of_text(rt: &impl Print, text: &[u8]) -> io::Result<()> {
 }
 
 // The list has more room than the data need: where they fill it, their end is not seen, and they are not taken.
-fn from(rt: &(impl Print + Eprint), input: &mut impl Read) -> io::Result<ExitCode> {
+fn from(rt: &(impl Print + Eprint), input: &mut impl Read) -> io::Result<()> {
     let mut text = [0u8; 262144];
     match requests::reading::read_text(input, &mut text) {
         Reading::Text(length) => {
             let end = reading::least(length, text.len());
-            of_text(rt, &text[..end])?;
-            Ok(ExitCode::SUCCESS)
+            of_text(rt, &text[..end])
         }
-        Reading::TooLong => {
-            rt.eprintln("replay: the data are too long")?;
-            Ok(ExitCode::FAILURE)
-        }
+        Reading::TooLong => rt.eprintln("replay: the data are too long"),
         Reading::Failed(why) => Err(why),
     }
 }
@@ -94,7 +89,7 @@ fn opened(rt: HostRuntime, path: &[u8]) -> io::Result<File> {
     }
 }
 
-fn main(rt: HostRuntime) -> io::Result<ExitCode> {
+fn main(rt: HostRuntime) -> io::Result<()> {
     let mut path = [0u8; 4096];
     let n = rt.arg(1, &mut path).unwrap_or(0);
     match opened(rt, &path[..n]) {
@@ -104,7 +99,7 @@ fn main(rt: HostRuntime) -> io::Result<ExitCode> {
         }
         Err(why) => {
             requests::failures::fail(rt.stderr(), &path[..n], &why);
-            Ok(ExitCode::FAILURE)
+            Ok(())
         }
     }
 }
