@@ -92,7 +92,7 @@ def antt():
 
 def made_by_rattle(p):
     """Whether p is the proof of a function, of whose names Rattle makes the most."""
-    return os.path.basename(p) in ("Proof.antt", "Invariants.antt", "Answers.antt")
+    return os.path.basename(p) in ("Proof.antt", "Invariants.antt", "Answers.antt") and re.match(r"crates/[^/]+/proofs/.+/", p) is not None
 
 
 def main():

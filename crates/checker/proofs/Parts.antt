@@ -10,7 +10,7 @@ use lib.IntN.{ℤ}
 use lib.ListN.{length, get_or}
 use Rattle.algebra.proofs.Sum.{thirds}
 use Rattle.algebra.proofs.Tests.{by_test}
-use Rattle.tables.specs.Answers.{Paper, yes, refuses, breaks, row, rule, ofRefusal, ofVerdict}
+use Rattle.tables.specs.Answers.{Paper, yes, refuses, breaks, row, rule, of_refusal, of_verdict}
 use Rattle.tables.specs.Data.{point_count, pair_count, end_a, end_b}
 use Rattle.tables.specs.Refusals.{rows, bad_counts, short_work, rows4to10}
 use Rattle.tables.specs.Rules.{triples, corner, rule1, rule2, rule3, rule4, rule5, rule6, rule7, rule8}
@@ -89,10 +89,10 @@ both_hold ps xs a z e = go (rule1 ps xs) (rule2 xs) (sym (ap broken z) ∙ e)
 pub verdict_rules : (ps : List ℤ) (qs xs : List ℕ) (work : ℕ) → yes ≡ refusals ps qs xs work → verdict ps qs xs work ≡ rules ps qs xs
 verdict_rules ps qs xs work e = sym (ap (λ (p : Paper). and_then p (rules ps qs xs)) e)
 
-pub verdict_refusal : (ps : List ℤ) (qs xs : List ℕ) (work : ℕ) (r : Refusal) → ofRefusal r ≡ refusals ps qs xs work → ofRefusal r ≡ verdict ps qs xs work
+pub verdict_refusal : (ps : List ℤ) (qs xs : List ℕ) (work : ℕ) (r : Refusal) → of_refusal r ≡ refusals ps qs xs work → of_refusal r ≡ verdict ps qs xs work
 verdict_refusal ps qs xs work r e = go r ∙ ap (λ (p : Paper). and_then p (rules ps qs xs)) e
   where
-    go : (r : Refusal) → ofRefusal r ≡ and_then (ofRefusal r) (rules ps qs xs)
+    go : (r : Refusal) → of_refusal r ≡ and_then (of_refusal r) (rules ps qs xs)
     go OddLength = refl
     go Counts = refl
     go Room = refl

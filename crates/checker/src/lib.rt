@@ -2,7 +2,7 @@
 #![tactic(auto)]
 
 ghost use Rattle.std.specs.Prelude.{◌≡◌, ℕ, ◌*◌, ◌≤◌, length};
-ghost use Rattle.tables.specs.Answers.{ofVerdict};
+ghost use Rattle.tables.specs.Answers.{of_verdict};
 ghost use Rattle.tables.specs.Data.{point_count};
 ghost use Rattle.tables.specs.Verdicts.{verdict, rules, left_work};
 ghost use Rattle.rooms.specs.Rest.{Rest};
@@ -65,7 +65,7 @@ fn lines(points: &[i32], pairs: &[u32], list: &[u32], work: &mut [u32]) -> u32
 // The eight rules in order.
 fn judge(points: &[i32], pairs: &[u32], list: &[u32], work: &mut [u32]) -> Verdict
     requires { Sound points.now list.now work.old × Zero points.now work.old × Ends (point_count points.now) pairs.now }
-    ensures { (ofVerdict result ≡ rules points.now pairs.now list.now) × Rest (64 * point_count points.now) work.old work.new }
+    ensures { (of_verdict result ≡ rules points.now pairs.now list.now) × Rest (64 * point_count points.now) work.old work.new }
 {
     let a = shape(points, list, work);
     if a != 0 {
@@ -86,7 +86,7 @@ fn judge(points: &[i32], pairs: &[u32], list: &[u32], work: &mut [u32]) -> Verdi
 // lowest broken rule. The working area: unchanged on 1 to 3, else its first 64n numbers zero and the rest unchanged. `rows` leaves it so, and
 // the rules, which begin on a cleared area, are followed by another clearing.
 pub fn check(points: &[i32], pairs: &[u32], list: &[u32], work: &mut [u32]) -> Verdict
-    ensures verdict { ofVerdict result ≡ verdict points.now pairs.now list.now (length work.old) }
+    ensures verdict { of_verdict result ≡ verdict points.now pairs.now list.now (length work.old) }
     ensures work { work.new ≡ left_work (verdict points.now pairs.now list.now (length work.old)) (point_count points.now) work.old }
 {
     let n = points.len() / 2;

@@ -7,7 +7,7 @@ use native.Mathlib.Omega.{arith}
 use lib.Dec.{lit≤, eqb}
 use lib.IntN.{ℤ}
 use lib.ListN.{length}
-use Rattle.tables.specs.Answers.{Paper, yes, refuses, breaks, row, row_at, rule, lowest, ofRefusal}
+use Rattle.tables.specs.Answers.{Paper, yes, refuses, breaks, row, row_at, rule, lowest, of_refusal}
 use Rattle.tables.specs.Data.{point_count, pair_count}
 use Rattle.tables.specs.Refusals.{rows, rows8to10, rows4to10, bad_counts, far, no_area, outside, again, bad_pair, blocked, crossing, short_work}
 use Rattle.tables.specs.Rules.{rule1, rule2, rule3, rule4, rule5, rule6, rule7, rule8}
@@ -81,7 +81,7 @@ low_verdict ps qs xs work = go (refusals ps qs xs work) (none_rows (not (eqb (le
     go (breaks j) f k e = absurd (f j refl)
 
 -- ---- the refusals
-pub of_row : (r : Refusal) → number_in (ofRefusal r) ≡ number_of (ofRefusal r)
+pub of_row : (r : Refusal) → number_in (of_refusal r) ≡ number_of (of_refusal r)
 of_row OddLength = refl
 of_row Counts = refl
 of_row Room = refl

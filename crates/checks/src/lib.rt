@@ -5,7 +5,7 @@
 #![tactic(auto)]
 
 ghost use Rattle.std.specs.Prelude.{◌≡◌, false, ◌*◌, ◌%◌, ◌≤◌, length};
-ghost use Rattle.tables.specs.Answers.{ofChecked};
+ghost use Rattle.tables.specs.Answers.{of_checked};
 ghost use Rattle.tables.specs.Data.{point_count};
 ghost use Rattle.tables.specs.Refusals.{rows, rows4to10};
 ghost use Rattle.tables.specs.Verdicts.{left_work};
@@ -22,7 +22,7 @@ const MOST_PAIRS: usize = 12288;
 fn rows_4_to_10(points: &[i32], pairs: &[u32], work: &mut [u32]) -> Checked
     requires points_len { (length points.now % 2 ≡ 0) × (length pairs.now % 2 ≡ 0) }
     requires bound { (3 ≤ point_count points.now) × (point_count points.now ≤ 4096) × (64 * point_count points.now ≤ length work.old) }
-    ensures result_value { ofChecked result ≡ rows4to10 points.now pairs.now }
+    ensures result_value { of_checked result ≡ rows4to10 points.now pairs.now }
     ensures rest { Rest (64 * point_count points.now) work.old work.new }
 {
     let far = point_checks::far_point(points);
@@ -47,7 +47,7 @@ fn rows_4_to_10(points: &[i32], pairs: &[u32], work: &mut [u32]) -> Checked
 // its 64n numbers. It is unchanged on refusals 1 to 3, else its first 64n numbers are zero and the rest is unchanged.
 pub fn rows(points: &[i32], pairs: &[u32], odd: bool, short: bool, work: &mut [u32]) -> Checked
     requires { short ≡ false → 64 * point_count points.now ≤ length work.old }
-    ensures answer { ofChecked result ≡ rows odd short points.now pairs.now }
+    ensures answer { of_checked result ≡ rows odd short points.now pairs.now }
     ensures work { work.new ≡ left_work (rows odd short points.now pairs.now) (point_count points.now) work.old }
 {
     if points.len() % 2 != 0 {

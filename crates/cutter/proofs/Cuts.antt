@@ -8,7 +8,7 @@ use native.Mathlib.Omega.{arith}
 use lib.Dec.{ltb}
 use lib.IntN.{ℤ}
 use lib.ListN.{length, get_or, take}
-use Rattle.tables.specs.Answers.{Paper, yes, ofRefusal}
+use Rattle.tables.specs.Answers.{Paper, yes, of_refusal}
 use Rattle.tables.specs.Data.{point_count, pair_count, point, base}
 use Rattle.tables.specs.Figures.{Figure}
 use Rattle.tables.specs.Refusals.{rows, short_work, short_room}
@@ -173,7 +173,7 @@ module _ (ps : List ℤ) (qs out w : List ℕ) {short : Bool} (i : short ≡ sho
   -- what the rows leave in the working area
   module _ {w1 : List ℕ} (j : w1 ≡ left_work (rows false short ps qs) (point_count ps) w) where
     -- a refusal by the table
-    pub refused_so : (r : Refusal) → ofRefusal r ≡ rows false short ps qs → Cutting ps qs out w out w1 (outcome.Refused r)
+    pub refused_so : (r : Refusal) → of_refusal r ≡ rows false short ps qs → Cutting ps qs out w out w1 (outcome.Refused r)
     refused_so r t = record {
       refused = λ n. (t ∙ same, refl);
       passed = λ y. absurd (refusal_not_yes r (t ∙ same ∙ y));

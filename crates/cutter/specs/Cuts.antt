@@ -1,6 +1,6 @@
 -- What the cutter promises. Definitions only.
 use Rattle.std.specs.Prelude.{Bool, true, false, List, ◌≡◌, ℕ, ◌+◌, ◌*◌, ◌<◌, ◌≤◌, ℤ, length, get_or, take}
-use Rattle.tables.specs.Answers.{Paper, yes, ofRefusal}
+use Rattle.tables.specs.Answers.{Paper, yes, of_refusal}
 use Rattle.tables.specs.Data.{point_count, pair_count, point, base}
 use Rattle.tables.specs.Refusals.{rows, short_room}
 use Rattle.tables.specs.Verdicts.{verdict, left_work}
@@ -18,7 +18,7 @@ asked ps qs out work = rows false (short_room (point_count ps) out work) ps qs
 -- the answer in the paper's terms
 abbrev pub of_outcome : Outcome → Paper
 of_outcome (Sheet T) = yes
-of_outcome (Refused r) = ofRefusal r
+of_outcome (Refused r) = of_refusal r
 
 -- A sheet of T triples: T is 2n - 2 - h, the first 3T numbers of the output are a list that keeps the eight rules, so that the checker says yes to
 -- it, and the rest of the output is unchanged.

@@ -10,7 +10,7 @@ use lib.IntN.{ℤ}
 use lib.ListN.{length}
 use borrow.Author.Tests.{ltb-false}
 use Rattle.nets.specs.Building.{on_rim}
-use Rattle.tables.specs.Answers.{Paper, yes as good, refuses, breaks, row, row_at, rule, lowest, ofRefusal}
+use Rattle.tables.specs.Answers.{Paper, yes as good, refuses, breaks, row, row_at, rule, lowest, of_refusal}
 use Rattle.tables.specs.Data.{point_count, pair_count, point, base}
 use Rattle.tables.specs.Refusals.{rows, rows8to10, rows4to10, bad_counts, far, no_area, outside, again, bad_pair, blocked, crossing, short_work, short_room}
 use Rattle.tables.specs.Rules.{rule1, rule2, rule3, rule4, rule5, rule6, rule7, rule8}
@@ -156,7 +156,7 @@ module _ (ps : List ℤ) (qs out work out' work' : List ℕ) (o : Outcome) (c : 
         small = cut_below ps qs out work out' work' o c;
       }
 
-  pub told_refusal : (f : Refusal) (r : ℕ) → o ≡ Refused f → r ≡ packed (ofRefusal f) → Told ps qs out work out' work' r
+  pub told_refusal : (f : Refusal) (r : ℕ) → o ≡ Refused f → r ≡ packed (of_refusal f) → Told ps qs out work out' work' r
   told_refusal f r q e =
       record {
         outcome = o;

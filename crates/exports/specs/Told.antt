@@ -1,6 +1,6 @@
 -- What the cutter answers as one number of 64 bits: (number << 32) | value. Definitions only.
 use Rattle.std.specs.Prelude.{List, ◌≡◌, ℕ, ◌+◌, ◌*◌, ◌<◌, ℤ}
-use Rattle.tables.specs.Answers.{ofRefusal}
+use Rattle.tables.specs.Answers.{of_refusal}
 use Rattle.row_numbers.specs.Numbers.{number_in, place_of}
 use Rattle.packing.specs.Packed.{shift}
 use Rattle.cutter.specs.Cuts.{Cutting}
@@ -10,7 +10,7 @@ use Rattle.cutter.specs.declared.Outcome.TheVariants.{Sheet, Refused}
 -- the halves of what the cutter's face answers: the number is 0 and the value is T for a sheet of T triples
 abbrev pub cut_number : Outcome → ℕ
 cut_number (Sheet T) = 0
-cut_number (Refused r) = number_in (ofRefusal r)
+cut_number (Refused r) = number_in (of_refusal r)
 
 abbrev pub cut_value : Outcome → ℕ
 cut_value (Sheet T) = T

@@ -4,7 +4,7 @@
 
 ghost use Rattle.std.specs.Prelude.{◌≡◌, length};
 ghost use Rattle.plane.specs.Points.{at};
-ghost use Rattle.signs.specs.Answers.{limit, orientAnswer, circleAnswer, wholeNumber};
+ghost use Rattle.signs.specs.Answers.{limit, orient_answer, circle_answer, whole_number};
 ghost use Rattle.tables.specs.Data.{point_count};
 ghost use Rattle.tables.specs.Verdicts.{verdict, left_work};
 ghost use Rattle.packing.specs.Packed.{Judged};
@@ -47,7 +47,7 @@ pub extern "C" fn dergulam_check(
 // -1, 0, 1, or 2 for out of range
 #[unsafe(no_mangle)]
 pub extern "C" fn dergulam_orient_sign(ax: i32, ay: i32, bx: i32, by: i32, cx: i32, cy: i32) -> i32
-    ensures { result ≡ wholeNumber (orientAnswer limit (at ax ay) (at bx by) (at cx cy)) }
+    ensures { result ≡ whole_number (orient_answer limit (at ax ay) (at bx by) (at cx cy)) }
 {
     sign_numbers::number_of(signs::orient_sign(ax, ay, bx, by, cx, cy))
 }
@@ -64,7 +64,7 @@ pub extern "C" fn dergulam_circle_sign(
     dx: i32,
     dy: i32,
 ) -> i32
-    ensures { result ≡ wholeNumber (circleAnswer limit (at ax ay) (at bx by) (at cx cy) (at dx dy)) }
+    ensures { result ≡ whole_number (circle_answer limit (at ax ay) (at bx by) (at cx cy) (at dx dy)) }
 {
     sign_numbers::number_of(signs::circle_sign(ax, ay, bx, by, cx, cy, dx, dy))
 }

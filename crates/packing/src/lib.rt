@@ -2,7 +2,7 @@
 #![tactic(auto)]
 
 ghost use Rattle.std.specs.Prelude.{◌≡◌, ◌<◌, ◌≤◌, ◌+◌, ◌*◌};
-ghost use Rattle.tables.specs.Answers.{ofRefusal, ofVerdict};
+ghost use Rattle.tables.specs.Answers.{of_refusal, of_verdict};
 ghost use Rattle.row_numbers.specs.Numbers.{value_in, place_of};
 ghost use Rattle.packing.specs.Packed.{shift, packed};
 
@@ -18,15 +18,15 @@ fn halves(number: u32, value: usize) -> u64
 // A refusal's number and its place.
 pub fn refusal(r: Refusal) -> u64
     requires { place_of r < shift }
-    ensures { result ≡ packed (ofRefusal r) }
+    ensures { result ≡ packed (of_refusal r) }
 {
     halves(row_numbers::number(r), row_numbers::place(r))
 }
 
 // 0 for yes, the number of the lowest broken rule, or a refusal's number and its place.
 pub fn verdict(answer: Verdict) -> u64
-    requires { value_in (ofVerdict answer) < shift }
-    ensures { result ≡ packed (ofVerdict answer) }
+    requires { value_in (of_verdict answer) < shift }
+    ensures { result ≡ packed (of_verdict answer) }
 {
     match answer {
         Verdict::Yes => 0,

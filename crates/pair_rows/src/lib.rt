@@ -5,7 +5,7 @@
 
 ghost use Rattle.std.specs.Prelude.{◌≡◌, ◌*◌, ◌%◌, ◌≤◌, length};
 ghost use Rattle.segments.specs.Near.{Near};
-ghost use Rattle.tables.specs.Answers.{yes, row_at, ofChecked};
+ghost use Rattle.tables.specs.Answers.{yes, row_at, of_checked};
 ghost use Rattle.tables.specs.Data.{point_count, pair_count};
 ghost use Rattle.tables.specs.Figures.{Figure};
 ghost use Rattle.tables.specs.Refusals.{rows8to10};
@@ -23,7 +23,7 @@ const HELD: usize = 10;
 
 // Row 10, the last of the table, from its lowest crossing pair.
 fn row_10(crossing: Lowest) -> Checked
-    ensures { ofChecked result ≡ row_at 10 crossing yes }
+    ensures { of_checked result ≡ row_at 10 crossing yes }
 {
     match crossing {
         Lowest::At(k) => Checked::Refused(Refusal::CrossingPair(k)),
@@ -35,7 +35,7 @@ fn row_10(crossing: Lowest) -> Checked
 fn rows_9_and_10_each(points: &[i32], pairs: &[u32]) -> Checked
     requires near { Near points.now }
     requires ends { Ends points.now pairs.now }
-    ensures { ofChecked result ≡ rows9and10 points.now pairs.now }
+    ensures { of_checked result ≡ rows9and10 points.now pairs.now }
 {
     let blocked = pair_checks::blocked_pair(points, pairs);
     if let Lowest::At(k) = blocked {
@@ -49,7 +49,7 @@ fn rows_9_and_10_ordered(points: &[i32], pairs: &[u32], work: &mut [u32]) -> Che
     requires figure { Figure points.now }
     requires ends { Ends points.now pairs.now }
     requires points_in_bounds { (64 * point_count points.now ≤ length work.old) × (pair_count pairs.now ≤ 10 * point_count points.now) }
-    ensures result_value { ofChecked result ≡ rows9and10 points.now pairs.now }
+    ensures result_value { of_checked result ≡ rows9and10 points.now pairs.now }
     ensures rest { Rest (64 * point_count points.now) work.old work.new }
 {
     ranks::rank_points(points, work);
@@ -64,7 +64,7 @@ fn rows_9_and_10_ordered(points: &[i32], pairs: &[u32], work: &mut [u32]) -> Che
 pub fn rows_8_to_10(points: &[i32], pairs: &[u32], work: &mut [u32]) -> Checked
     requires figure { Figure points.now }
     requires pairs_len { (length pairs.now % 2 ≡ 0) × (64 * point_count points.now ≤ length work.old) }
-    ensures result_value { ofChecked result ≡ rows8to10 points.now pairs.now }
+    ensures result_value { of_checked result ≡ rows8to10 points.now pairs.now }
     ensures rest { Rest (64 * point_count points.now) work.old work.new }
 {
     let n = points.len() / 2;

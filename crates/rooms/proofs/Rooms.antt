@@ -6,7 +6,7 @@ use Prim.Native.Nat.{ℕ, ◌-◌, ◌*◌, ◌/◌, ◌<◌, ◌≤◌}
 use native.Mathlib.Omega.{arith}
 use lib.Dec.{ltb}
 use Rattle.algebra.proofs.Tests.{by_test}
-use Rattle.tables.specs.Answers.{Paper, yes, refuses, breaks, ofRefusal}
+use Rattle.tables.specs.Answers.{Paper, yes, refuses, breaks, of_refusal}
 use Rattle.tables.specs.Refusals.{short_work, short_room}
 use Rattle.tables.specs.declared.Refusal.{Refusal}
 use Rattle.tables.specs.declared.Refusal.TheVariants.{OddLength, Counts, Room, FarPoint, NoArea, OutsidePoint, EqualPoint, BadPair, BlockedPair, CrossingPair, StuckPair}
@@ -53,7 +53,7 @@ room_is n w e = ltb-false w (64 * n) (sym (short_is n w) ∙ e)
 
 -- ---- a refusal is no yes
 
-pub refusal_not_yes : (r : Refusal) → ofRefusal r ≡ yes → ⊥
+pub refusal_not_yes : (r : Refusal) → of_refusal r ≡ yes → ⊥
 refusal_not_yes r e = go r e
   where
     is_yes : Paper → Type 0
@@ -64,7 +64,7 @@ refusal_not_yes r e = go r e
     clash : (p : Paper) (k i : ℕ) → refuses k i ≡ yes → ⊥
     clash p k i q = subst is_yes (sym q) tt
 
-    go : (r : Refusal) → ofRefusal r ≡ yes → ⊥
+    go : (r : Refusal) → of_refusal r ≡ yes → ⊥
     go OddLength q = clash yes 1 0 q
     go Counts q = clash yes 2 0 q
     go Room q = clash yes 3 0 q

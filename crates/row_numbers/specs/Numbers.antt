@@ -1,6 +1,6 @@
 -- The number and the value of an answer of the paper. Definitions only.
 use Rattle.std.specs.Prelude.{ℕ}
-use Rattle.tables.specs.Answers.{Paper, yes, refuses, breaks, ofRefusal}
+use Rattle.tables.specs.Answers.{Paper, yes, refuses, breaks, of_refusal}
 use Rattle.tables.specs.declared.Refusal.{Refusal}
 
 -- a refusal's number, or 0
@@ -17,4 +17,4 @@ value_in (breaks k) = k
 
 -- a refusal's place, 0 where the table says none
 abbrev pub place_of : Refusal → ℕ
-place_of r = value_in (ofRefusal r)
+place_of r = value_in (of_refusal r)

@@ -2,13 +2,13 @@
 #![tactic(auto)]
 
 ghost use Rattle.std.specs.Prelude.{◌≡◌, ◌≤◌};
-ghost use Rattle.tables.specs.Answers.{ofRefusal};
+ghost use Rattle.tables.specs.Answers.{of_refusal};
 ghost use Rattle.row_numbers.specs.Numbers.{number_in, place_of};
 
 use tables::Refusal;
 
 pub fn number(r: Refusal) -> u32
-    ensures { (result ≡ number_in (ofRefusal r)) × (result ≤ 11) }
+    ensures { (result ≡ number_in (of_refusal r)) × (result ≤ 11) }
 {
     match r {
         Refusal::OddLength => 1,

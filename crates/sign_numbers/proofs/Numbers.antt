@@ -4,7 +4,7 @@ use lib.IntN.{ℤ}
 use mir.Syntax.{w32}
 use Rattle.algebra.proofs.Machine.{back}
 use Rattle.signs.specs.Signs.{number}
-use Rattle.signs.specs.Answers.{wholeNumber}
+use Rattle.signs.specs.Answers.{whole_number}
 use Rattle.signs.specs.declared.Sign.{Sign}
 use Rattle.signs.specs.declared.Sign.TheVariants.{Neg, Zero, Pos}
 use Rattle.signs.specs.declared.WholeSign.{WholeSign}
@@ -18,6 +18,6 @@ number_read {z} s e = ap (back w32) e ∙ same s
     same Zero = refl
     same Pos = refl
 
-pub whole_read : {z : ℤ} (a : WholeSign) → z ≡ wholeNumber a → back w32 z ≡ wholeNumber a
+pub whole_read : {z : ℤ} (a : WholeSign) → z ≡ whole_number a → back w32 z ≡ whole_number a
 whole_read (Known s) e = number_read s e
 whole_read OutOfRange e = ap (back w32) e

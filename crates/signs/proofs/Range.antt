@@ -14,7 +14,7 @@ use Rattle.algebra.proofs.Machine.{back, Fit, backs_fit}
 use Rattle.plane.specs.Points.{Pt, at}
 use Rattle.plane.specs.Determinants.{orient, incircle}
 use Rattle.signs.specs.Signs.{sign_z}
-use Rattle.signs.specs.Answers.{within, orientAnswer, circleAnswer}
+use Rattle.signs.specs.Answers.{within, orient_answer, circle_answer}
 use Rattle.signs.specs.declared.Sign.{Sign}
 use Rattle.signs.specs.declared.WholeSign.TheVariants.{Known, OutOfRange}
 
@@ -61,23 +61,23 @@ module _ (k : ℕ) (ax ay bx by cx cy : ℤ) (f : Fit w32 (ax ∷ ay ∷ bx ∷ 
 
 -- ---- the answers
 module _ (k : ℕ) (a b c : Pt ℤ) where
-  pub orient_known : {s : Sign} → three k a b c ≡ true → s ≡ sign_z (orient a b c) → Known s ≡ orientAnswer k a b c
-  unfolding orientAnswer
+  pub orient_known : {s : Sign} → three k a b c ≡ true → s ≡ sign_z (orient a b c) → Known s ≡ orient_answer k a b c
+  unfolding orient_answer
   orient_known h e = rw h (ap Known e)
 
-  pub orient_out : three k a b c ≡ false → OutOfRange ≡ orientAnswer k a b c
-  unfolding orientAnswer
+  pub orient_out : three k a b c ≡ false → OutOfRange ≡ orient_answer k a b c
+  unfolding orient_answer
   orient_out h = rw h
 
   module _ (d : Pt ℤ) where
-    pub circle_known : {s : Sign} → three k a b c ≡ true → within k d ≡ true → s ≡ sign_z (incircle a b c d) → Known s ≡ circleAnswer k a b c d
-    unfolding circleAnswer
+    pub circle_known : {s : Sign} → three k a b c ≡ true → within k d ≡ true → s ≡ sign_z (incircle a b c d) → Known s ≡ circle_answer k a b c d
+    unfolding circle_answer
     circle_known h i e = rw (h, i) (ap Known e)
 
-    pub circle_out : three k a b c ≡ true → within k d ≡ false → OutOfRange ≡ circleAnswer k a b c d
-    unfolding circleAnswer
+    pub circle_out : three k a b c ≡ true → within k d ≡ false → OutOfRange ≡ circle_answer k a b c d
+    unfolding circle_answer
     circle_out h i = rw (h, i)
 
-    pub circle_far : three k a b c ≡ false → OutOfRange ≡ circleAnswer k a b c d
-    unfolding circleAnswer
+    pub circle_far : three k a b c ≡ false → OutOfRange ≡ circle_answer k a b c d
+    unfolding circle_answer
     circle_far h = rw h

@@ -8,7 +8,7 @@ use Rattle.plane.specs.Determinants.{orient, incircle}
 use Rattle.plane.proofs.Orient.{orient_cyc, orient_swap}
 use Rattle.plane.proofs.Circle.{incircle_cyc, incircle_swap, incircle_flip}
 use Rattle.signs.specs.Signs.{sign_z, flipped}
-use Rattle.signs.specs.Answers.{within, orientAnswer, circleAnswer, opposite}
+use Rattle.signs.specs.Answers.{within, orient_answer, circle_answer, opposite}
 use Rattle.signs.specs.Laws.{SignLaws}
 use Rattle.signs.specs.declared.Sign.{Sign}
 use Rattle.signs.specs.declared.WholeSign.{WholeSign}
@@ -57,7 +57,7 @@ contrary : (t u : Bool) (y z : ℤ) → t ≡ u → y ≡ neg_ℤ z → answer t
 contrary t u y z e h = same t u y (neg_ℤ z) e h ∙ ap (answer u) (sign_neg z) ∙ turned u (sign_z z)
 
 pub laws : (k : ℕ) → SignLaws k
-unfolding orientAnswer circleAnswer answer
+unfolding orient_answer circle_answer answer
 laws k = record {
   orient_cyclic = λ a b c. same (within k a && within k b && within k c) (within k b && within k c && within k a) (orient a b c) (orient b c a)
       (turn (within k a) (within k b) (within k c)) (orient_cyc a b c);

@@ -15,11 +15,11 @@ abbrev pub within : ℕ → Pt ℤ → Bool
 within k p = leb (nat_abs p.x) k && leb (nat_abs p.y) k
 
 -- with coordinates up to k, the sign of the determinant; else out of range
-unfoldable pub orientAnswer : ℕ → Pt ℤ → Pt ℤ → Pt ℤ → WholeSign
-orientAnswer k a b c = cond (within k a && within k b && within k c) (Known (sign_z (orient a b c))) OutOfRange
+unfoldable pub orient_answer : ℕ → Pt ℤ → Pt ℤ → Pt ℤ → WholeSign
+orient_answer k a b c = cond (within k a && within k b && within k c) (Known (sign_z (orient a b c))) OutOfRange
 
-unfoldable pub circleAnswer : ℕ → Pt ℤ → Pt ℤ → Pt ℤ → Pt ℤ → WholeSign
-circleAnswer k a b c d = cond (within k a && within k b && within k c && within k d) (Known (sign_z (incircle a b c d))) OutOfRange
+unfoldable pub circle_answer : ℕ → Pt ℤ → Pt ℤ → Pt ℤ → Pt ℤ → WholeSign
+circle_answer k a b c d = cond (within k a && within k b && within k c && within k d) (Known (sign_z (incircle a b c d))) OutOfRange
 
 -- the opposite answer: out of range stays
 abbrev pub opposite : WholeSign → WholeSign
@@ -27,6 +27,6 @@ opposite (Known s) = Known (flipped s)
 opposite OutOfRange = OutOfRange
 
 -- an answer as a number: a sign's, or 2
-abbrev pub wholeNumber : WholeSign → ℤ
-wholeNumber (Known s) = number s
-wholeNumber OutOfRange = pos 2
+abbrev pub whole_number : WholeSign → ℤ
+whole_number (Known s) = number s
+whole_number OutOfRange = pos 2

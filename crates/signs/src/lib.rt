@@ -9,7 +9,7 @@ ghost use Rattle.algebra.specs.Size.{Small};
 ghost use Rattle.plane.specs.Points.{at};
 ghost use Rattle.plane.specs.Determinants.{orient, incircle};
 ghost use Rattle.signs.specs.Signs.{sign_z, sign_f, flipped, number};
-ghost use Rattle.signs.specs.Answers.{limit, within, orientAnswer, circleAnswer};
+ghost use Rattle.signs.specs.Answers.{limit, within, orient_answer, circle_answer};
 
 // The largest size of a coordinate, refusal 4's limit.
 pub const LIMIT: i32 = 8192;
@@ -128,7 +128,7 @@ pub fn orient_det(ax: i32, ay: i32, bx: i32, by: i32, cx: i32, cy: i32) -> i64
 
 // The sign of the orientation of a, b, c: positive means counterclockwise.
 pub fn orient_sign(ax: i32, ay: i32, bx: i32, by: i32, cx: i32, cy: i32) -> WholeSign
-    ensures { result ≡ orientAnswer limit (at ax ay) (at bx by) (at cx cy) }
+    ensures { result ≡ orient_answer limit (at ax ay) (at bx by) (at cx cy) }
 {
     if all_within(ax, ay, bx, by, cx, cy) {
         WholeSign::Known(Sign::of_i64(orient_det(ax, ay, bx, by, cx, cy)))
@@ -175,7 +175,7 @@ pub fn circle_sign(
     dx: i32,
     dy: i32,
 ) -> WholeSign
-    ensures { result ≡ circleAnswer limit (at ax ay) (at bx by) (at cx cy) (at dx dy) }
+    ensures { result ≡ circle_answer limit (at ax ay) (at bx by) (at cx cy) (at dx dy) }
 {
     if all_within(ax, ay, bx, by, cx, cy) {
         if within(dx, dy) {

@@ -5,7 +5,7 @@
 ghost use Rattle.std.specs.Prelude.{◌≡◌};
 ghost use Rattle.plane.specs.Points.{at};
 ghost use Rattle.signs.specs.Signs.{sign_f, number};
-ghost use Rattle.signs.specs.Answers.{limit, orientAnswer, circleAnswer, wholeNumber};
+ghost use Rattle.signs.specs.Answers.{limit, orient_answer, circle_answer, whole_number};
 ghost use Rattle.float_signs.specs.Intake.{intake_of, intake_number, intake_leaves};
 ghost use Rattle.float_signs.specs.Parts.{decomp_of, is_finite, mantissa_or, exponent_or};
 ghost use Rattle.float_signs.specs.Filter.{vec, orient_filter, circle_f, filter_number};
@@ -24,7 +24,7 @@ pub extern "C" fn signs_of_f64(v: f64) -> i32
 // -1, 0, 1, or 2 for out of range
 #[unsafe(no_mangle)]
 pub extern "C" fn signs_orient(ax: i32, ay: i32, bx: i32, by: i32, cx: i32, cy: i32) -> i32
-    ensures { result ≡ wholeNumber (orientAnswer limit (at ax ay) (at bx by) (at cx cy)) }
+    ensures { result ≡ whole_number (orient_answer limit (at ax ay) (at bx by) (at cx cy)) }
 {
     sign_numbers::number_of(signs::orient_sign(ax, ay, bx, by, cx, cy))
 }
@@ -41,7 +41,7 @@ pub extern "C" fn signs_circle(
     dx: i32,
     dy: i32,
 ) -> i32
-    ensures { result ≡ wholeNumber (circleAnswer limit (at ax ay) (at bx by) (at cx cy) (at dx dy)) }
+    ensures { result ≡ whole_number (circle_answer limit (at ax ay) (at bx by) (at cx cy) (at dx dy)) }
 {
     sign_numbers::number_of(signs::circle_sign(ax, ay, bx, by, cx, cy, dx, dy))
 }

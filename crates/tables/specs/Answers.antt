@@ -15,27 +15,27 @@ pub data Paper : Type 0 where
   -- the rule's number
   breaks : ℕ → Paper
 
-abbrev pub ofRefusal : Refusal → Paper
-ofRefusal OddLength = refuses 1 0
-ofRefusal Counts = refuses 2 0
-ofRefusal Room = refuses 3 0
-ofRefusal (FarPoint i) = refuses 4 i
-ofRefusal NoArea = refuses 5 0
-ofRefusal (OutsidePoint i) = refuses 6 i
-ofRefusal (EqualPoint i) = refuses 7 i
-ofRefusal (BadPair k) = refuses 8 k
-ofRefusal (BlockedPair k) = refuses 9 k
-ofRefusal (CrossingPair k) = refuses 10 k
-ofRefusal (StuckPair k) = refuses 11 k
+abbrev pub of_refusal : Refusal → Paper
+of_refusal OddLength = refuses 1 0
+of_refusal Counts = refuses 2 0
+of_refusal Room = refuses 3 0
+of_refusal (FarPoint i) = refuses 4 i
+of_refusal NoArea = refuses 5 0
+of_refusal (OutsidePoint i) = refuses 6 i
+of_refusal (EqualPoint i) = refuses 7 i
+of_refusal (BadPair k) = refuses 8 k
+of_refusal (BlockedPair k) = refuses 9 k
+of_refusal (CrossingPair k) = refuses 10 k
+of_refusal (StuckPair k) = refuses 11 k
 
-abbrev pub ofChecked : Checked → Paper
-ofChecked Checked.Passed = yes
-ofChecked (Checked.Refused r) = ofRefusal r
+abbrev pub of_checked : Checked → Paper
+of_checked Checked.Passed = yes
+of_checked (Checked.Refused r) = of_refusal r
 
-abbrev pub ofVerdict : Verdict → Paper
-ofVerdict Verdict.Yes = yes
-ofVerdict (Verdict.Breaks k) = breaks k
-ofVerdict (Verdict.Refused r) = ofRefusal r
+abbrev pub of_verdict : Verdict → Paper
+of_verdict Verdict.Yes = yes
+of_verdict (Verdict.Breaks k) = breaks k
+of_verdict (Verdict.Refused r) = of_refusal r
 
 -- ---- the order of tests: a row that offends is the answer, and else the rows after it
 

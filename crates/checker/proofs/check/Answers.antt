@@ -6,7 +6,7 @@ use native.Mathlib.Omega.{arith}
 use lib.Dec.{eqb, ltb}
 use lib.IntN.{ℤ}
 use lib.ListN.{length}
-use Rattle.tables.specs.Answers.{Paper, yes, ofRefusal, ofChecked}
+use Rattle.tables.specs.Answers.{Paper, yes, of_refusal, of_checked}
 use Rattle.tables.specs.Data.{point_count}
 use Rattle.tables.specs.Refusals.{rows}
 use Rattle.tables.specs.Verdicts.{refusals, verdict, left_work, cleared}
@@ -27,10 +27,10 @@ same : (ps : List ℤ) (qs list w : List ℕ) → answered ps qs list w ≡ refu
 same ps qs list w = ap (λ (b : Bool). rows (not (eqb (length list % 3) 0)) b ps qs) (short_is (point_count ps) (length w))
 
 -- ---- a refusal
-told : (c : In-Refused) → ofRefusal c.in-Refused.r ≡ answered c.args.points.now c.args.pairs.now c.args.list.now c.args.work.now
-told c = ap ofChecked (sym c.in-Refused.is) ∙ c.rows-first.ensures.answer
+told : (c : In-Refused) → of_refusal c.in-Refused.r ≡ answered c.args.points.now c.args.pairs.now c.args.list.now c.args.work.now
+told c = ap of_checked (sym c.in-Refused.is) ∙ c.rows-first.ensures.answer
 
-answer : (c : In-Refused) → ofRefusal c.in-Refused.r ≡ verdict c.args.points.now c.args.pairs.now c.args.list.now (length c.args.work.now)
+answer : (c : In-Refused) → of_refusal c.in-Refused.r ≡ verdict c.args.points.now c.args.pairs.now c.args.list.now (length c.args.work.now)
 answer c =
     verdict_refusal c.args.points.now c.args.pairs.now c.args.list.now (length c.args.work.now) c.in-Refused.r
     (told c ∙ same c.args.points.now c.args.pairs.now c.args.list.now c.args.work.now)
@@ -44,7 +44,7 @@ returns-in-Refused c =
 
 -- ---- no refusal
 none : (c : In-Passed) → yes ≡ answered c.args.points.now c.args.pairs.now c.args.list.now c.args.work.now
-none c = ap ofChecked (sym c.in-Passed.is) ∙ c.rows-first.ensures.answer
+none c = ap of_checked (sym c.in-Passed.is) ∙ c.rows-first.ensures.answer
 
 quiet : (c : In-Passed) →
     Silent (not (eqb (length c.args.list.now % 3) 0)) (ltb (length c.args.work.now / 64) (point_count c.args.points.now)) c.args.points.now c.args.pairs.now

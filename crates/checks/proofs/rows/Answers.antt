@@ -39,40 +39,40 @@ returns-then-odd c = let q : asked (goal.at.returns-then-odd c).Start ≡ refuse
     let the_clauses = early (goal.at.returns-then-odd c).Start 1 q refl in record { answer = the_clauses.0; work = the_clauses.1 }
 
 -- row 1 is passed
-after-1 : (c : Else-odd) →
+after_1 : (c : Else-odd) →
     let a = c.args in
     rows a.odd a.short a.points.now a.pairs.now
     ≡ row 2 (bad_counts (point_count a.points.now) (pair_count a.pairs.now)) (row 3 a.short (rows4to10 a.points.now a.pairs.now))
-after-1 c = rw (eq-eqb _ _ c.if-points-ne0.false, eq-eqb _ _ c.if-pairs-ne0.false, c.if-odd.false)
+after_1 c = rw (eq-eqb _ _ c.if-points-ne0.false, eq-eqb _ _ c.if-pairs-ne0.false, c.if-odd.false)
 
 pub returns-then-points-lt3 : goal.returns-then-points-lt3
-returns-then-points-lt3 c = let q : asked (goal.at.returns-then-points-lt3 c).Start ≡ refuses 2 0 = rw (after-1 (goal.at.returns-then-points-lt3 c).Else-odd, lt-ltb _ _ c.if-points-lt3.true) in
+returns-then-points-lt3 c = let q : asked (goal.at.returns-then-points-lt3 c).Start ≡ refuses 2 0 = rw (after_1 (goal.at.returns-then-points-lt3 c).Else-odd, lt-ltb _ _ c.if-points-lt3.true) in
     let the_clauses = early (goal.at.returns-then-points-lt3 c).Start 2 q refl in record { answer = the_clauses.0; work = the_clauses.1 }
 
 pub returns-then-points-gt-MOST_POINTS : goal.returns-then-points-gt-MOST_POINTS
-returns-then-points-gt-MOST_POINTS c = let q : asked (goal.at.returns-then-points-gt-MOST_POINTS c).Start ≡ refuses 2 0 = rw (after-1 (goal.at.returns-then-points-gt-MOST_POINTS c).Else-odd, le-ltb _ _ c.if-points-lt3.false, lt-ltb _ _ c.if-points-gt-MOST_POINTS.true) in
+returns-then-points-gt-MOST_POINTS c = let q : asked (goal.at.returns-then-points-gt-MOST_POINTS c).Start ≡ refuses 2 0 = rw (after_1 (goal.at.returns-then-points-gt-MOST_POINTS c).Else-odd, le-ltb _ _ c.if-points-lt3.false, lt-ltb _ _ c.if-points-gt-MOST_POINTS.true) in
     let the_clauses = early (goal.at.returns-then-points-gt-MOST_POINTS c).Start 2 q refl in record { answer = the_clauses.0; work = the_clauses.1 }
 
 pub returns-then-pairs-gt-MOST_PAIRS : goal.returns-then-pairs-gt-MOST_PAIRS
-returns-then-pairs-gt-MOST_PAIRS c = let q : asked (goal.at.returns-then-pairs-gt-MOST_PAIRS c).Start ≡ refuses 2 0 = rw (after-1 (goal.at.returns-then-pairs-gt-MOST_PAIRS c).Else-odd, le-ltb _ _ c.if-points-lt3.false, le-ltb _ _ c.if-points-gt-MOST_POINTS.false, lt-ltb _ _ c.if-pairs-gt-MOST_PAIRS.true) in
+returns-then-pairs-gt-MOST_PAIRS c = let q : asked (goal.at.returns-then-pairs-gt-MOST_PAIRS c).Start ≡ refuses 2 0 = rw (after_1 (goal.at.returns-then-pairs-gt-MOST_PAIRS c).Else-odd, le-ltb _ _ c.if-points-lt3.false, le-ltb _ _ c.if-points-gt-MOST_POINTS.false, lt-ltb _ _ c.if-pairs-gt-MOST_PAIRS.true) in
     let the_clauses = early (goal.at.returns-then-pairs-gt-MOST_PAIRS c).Start 2 q refl in record { answer = the_clauses.0; work = the_clauses.1 }
 
 -- row 2 is passed
-after-2 : (c : Else-pairs-gt-MOST_PAIRS) →
+after_2 : (c : Else-pairs-gt-MOST_PAIRS) →
     let a = c.args in
     rows a.odd a.short a.points.now a.pairs.now ≡ row 3 a.short (rows4to10 a.points.now a.pairs.now)
-after-2 c =
-    rw (after-1 (record { before = c.before.before.before.before; type_inv = record { work = c.slice_known-1.given; pairs = c.shared_slice_known-1.given } }), le-ltb _ _ c.if-points-lt3.false, le-ltb _ _ c.if-points-gt-MOST_POINTS.false, le-ltb _ _ c.if-pairs-gt-MOST_PAIRS.false)
+after_2 c =
+    rw (after_1 (record { before = c.before.before.before.before; type_inv = record { work = c.slice_known-1.given; pairs = c.shared_slice_known-1.given } }), le-ltb _ _ c.if-points-lt3.false, le-ltb _ _ c.if-points-gt-MOST_POINTS.false, le-ltb _ _ c.if-pairs-gt-MOST_PAIRS.false)
 
 pub returns-then-short : goal.returns-then-short
-returns-then-short c = let the_clauses = early (goal.at.returns-then-short c).Start 3 (after-2 (goal.at.returns-then-short c).Else-pairs-gt-MOST_PAIRS ∙ row_stops 3 _ c.if-short.true) refl in record { answer = the_clauses.0; work = the_clauses.1 }
+returns-then-short c = let the_clauses = early (goal.at.returns-then-short c).Start 3 (after_2 (goal.at.returns-then-short c).Else-pairs-gt-MOST_PAIRS ∙ row_stops 3 _ c.if-short.true) refl in record { answer = the_clauses.0; work = the_clauses.1 }
 
 -- row 3 is passed
 abbrev n : (c : Else-short) → ℕ
 n c = point_count c.args.points.now
 
-after-3 : (c : Else-short) → rows c.args.odd c.args.short c.args.points.now c.args.pairs.now ≡ rows4to10 c.args.points.now c.args.pairs.now
-after-3 c = after-2 (record { before = c.before.before; type_inv = record { work = c.slice_known-1.given; pairs = c.shared_slice_known-1.given } }) ∙ row_passes 3 _ c.if-short.false
+after_3 : (c : Else-short) → rows c.args.odd c.args.short c.args.points.now c.args.pairs.now ≡ rows4to10 c.args.points.now c.args.pairs.now
+after_3 c = after_2 (record { before = c.before.before; type_inv = record { work = c.slice_known-1.given; pairs = c.shared_slice_known-1.given } }) ∙ row_passes 3 _ c.if-short.false
 
 room : (c : Else-short) → 64 * point_count c.args.points.now ≤ length c.args.work.now
 room c = c.requires c.if-short.false
@@ -91,7 +91,7 @@ clear-requires c = rw c.rows_4_to_10-answer.ensures.rest.size (room (goal.at.cle
 
 pub returns : goal.returns
 returns c = let w = c.args.work.now in record {
-  answer = c.rows_4_to_10-answer.ensures.result_value ∙ sym (after-3 (goal.at.returns c).Else-short);
+  answer = c.rows_4_to_10-answer.ensures.result_value ∙ sym (after_3 (goal.at.returns c).Else-short);
   work = c.clear.ensures ∙ cleared_over (64 * n (goal.at.returns c).Else-short) w _ c.rows_4_to_10-answer.ensures.rest
-      ∙ sym (ap (λ (p : Paper). left_work p (n (goal.at.returns c).Else-short) w) (after-3 (goal.at.returns c).Else-short) ∙ rows_leave c.args.points.now c.args.pairs.now (n (goal.at.returns c).Else-short) w);
+      ∙ sym (ap (λ (p : Paper). left_work p (n (goal.at.returns c).Else-short) w) (after_3 (goal.at.returns c).Else-short) ∙ rows_leave c.args.points.now c.args.pairs.now (n (goal.at.returns c).Else-short) w);
 }

@@ -21,11 +21,11 @@ abbrev ρ : Start → List ℤ
 ρ c = c.args.ax ∷ c.args.ay ∷ c.args.bx ∷ c.args.by ∷ c.args.cx ∷ c.args.cy ∷ c.args.dx ∷ c.args.dy ∷ []
 
 -- The calls were passed coordinates that went through bits.
-side-c : (c : After-orient_det) → c.orient_det.result ≡ four (λ a b c d. orient a b c) (ρ c.before)
-side-c c = c.orient_det.ensures ∙ passed4 (ρ c.before) c.requires (λ a b c d. orient a b c)
+side_c : (c : After-orient_det) → c.orient_det.result ≡ four (λ a b c d. orient a b c) (ρ c.before)
+side_c c = c.orient_det.ensures ∙ passed4 (ρ c.before) c.requires (λ a b c d. orient a b c)
 
-side-d : (c : After-orient_det-2) → c.orient_det-2.result ≡ four (λ a b c d. orient a b d) (ρ c.before.before)
-side-d c = c.orient_det-2.ensures ∙ passed4 (ρ c.before.before) c.requires (λ a b c d. orient a b d)
+side_d : (c : After-orient_det-2) → c.orient_det-2.result ≡ four (λ a b c d. orient a b d) (ρ c.before.before)
+side_d c = c.orient_det-2.ensures ∙ passed4 (ρ c.before.before) c.requires (λ a b c d. orient a b d)
 
 -- The determinants are at most 2^29 in size, so their product fits.
 abbrev bound : ℕ
@@ -39,14 +39,14 @@ unfolding orient
 near c =
     let β = all limit (ρ c.before.before) in
     let w = small_within limit (ρ c.before.before) c.requires in
-    (rw (side-c c.before) (size_le (on4 (λ a b c d. orient_e a b c)) (ρ c.before.before) β w), (rw (side-d c) (size_le (on4 (λ a b c d. orient_e a b d)) (ρ c.before.before) β w), tt))
+    (rw (side_c c.before) (size_le (on4 (λ a b c d. orient_e a b c)) (ρ c.before.before) β w), (rw (side_d c) (size_le (on4 (λ a b c d. orient_e a b d)) (ρ c.before.before) β w), tt))
 
 abbrev product : Code
 product = times w64 (arg 0) (arg 1)
 
 pub returns : goal.returns
 returns c = ap (λ (x : ℤ). lt_z x (pos 0)) (is_small w64 bound (σ (goal.at.returns c).After-orient_det-2) (near (goal.at.returns c).After-orient_det-2) product (var 0 ⊗ var 1) tt tt)
-    ∙ opposed_product c.orient_det.result c.orient_det-2.result ∙ ap₂ opposed (side-c (goal.at.returns c).After-orient_det) (side-d (goal.at.returns c).After-orient_det-2)
+    ∙ opposed_product c.orient_det.result c.orient_det-2.result ∙ ap₂ opposed (side_c (goal.at.returns c).After-orient_det) (side_d (goal.at.returns c).After-orient_det-2)
 
 pub orient_det-requires : goal.orient_det-requires
 orient_det-requires c = again (ρ (goal.at.orient_det-requires c).Start) c.requires (0 ∷ 1 ∷ 2 ∷ 3 ∷ 4 ∷ 5 ∷ [])

@@ -4,7 +4,7 @@ use mathlib.Core.Path.{◌≡◌, sym, ap, ◌∙◌}
 use Prim.Native.Nat.{ℕ}
 use lib.IntN.{ℤ}
 use lib.ListN.{length}
-use Rattle.tables.specs.Answers.{yes, ofRefusal, ofChecked}
+use Rattle.tables.specs.Answers.{yes, of_refusal, of_checked}
 use Rattle.tables.specs.Data.{point_count}
 use Rattle.tables.specs.Refusals.{rows, short_room}
 use Rattle.tables.specs.Verdicts.{left_work}
@@ -32,8 +32,8 @@ w c = c.args.work.now
 abbrev short : (c : After-rows-first) → Bool
 short c = c.is_short-short.result
 
-short-is : (c : After-rows-first) → (short c) ≡ short_room (point_count c.args.points.now) (length c.args.out.now) (length c.args.work.now)
-short-is c = c.is_short-short.ensures
+short_is : (c : After-rows-first) → (short c) ≡ short_room (point_count c.args.points.now) (length c.args.out.now) (length c.args.work.now)
+short_is c = c.is_short-short.ensures
 
 -- the working area then
 abbrev w1 : (c : After-rows-first) → List ℕ
@@ -46,18 +46,18 @@ left c = c.rows-first.ensures.work
 abbrev r : (t : In-Refused) → Refusal
 r t = t.in-Refused.r
 
-told : (t : In-Refused) → ofRefusal (r t) ≡ rows false (short (record { before = t.before.before.before.before; type_inv = record { out = t.slice_known-1.given; pairs = t.shared_slice_known-1.given } })) (ps (record { before = t.before.before.before.before; type_inv = record { out = t.slice_known-1.given; pairs = t.shared_slice_known-1.given } })) (qs (record { before = t.before.before.before.before; type_inv = record { out = t.slice_known-1.given; pairs = t.shared_slice_known-1.given } }))
-told t = ap ofChecked (sym t.in-Refused.is) ∙ t.rows-first.ensures.answer
+told : (t : In-Refused) → of_refusal (r t) ≡ rows false (short (record { before = t.before.before.before.before; type_inv = record { out = t.slice_known-1.given; pairs = t.shared_slice_known-1.given } })) (ps (record { before = t.before.before.before.before; type_inv = record { out = t.slice_known-1.given; pairs = t.shared_slice_known-1.given } })) (qs (record { before = t.before.before.before.before; type_inv = record { out = t.slice_known-1.given; pairs = t.shared_slice_known-1.given } }))
+told t = ap of_checked (sym t.in-Refused.is) ∙ t.rows-first.ensures.answer
 
 pub returns-in-Refused : goal.returns-in-Refused
-returns-in-Refused c = refused_so (ps (goal.at.returns-in-Refused c).After-rows-first) (qs (goal.at.returns-in-Refused c).After-rows-first) (out (goal.at.returns-in-Refused c).After-rows-first) (w (goal.at.returns-in-Refused c).After-rows-first) (short-is (goal.at.returns-in-Refused c).After-rows-first) (left (goal.at.returns-in-Refused c).After-rows-first) (r (goal.at.returns-in-Refused c).In-Refused) (told (goal.at.returns-in-Refused c).In-Refused)
+returns-in-Refused c = refused_so (ps (goal.at.returns-in-Refused c).After-rows-first) (qs (goal.at.returns-in-Refused c).After-rows-first) (out (goal.at.returns-in-Refused c).After-rows-first) (w (goal.at.returns-in-Refused c).After-rows-first) (short_is (goal.at.returns-in-Refused c).After-rows-first) (left (goal.at.returns-in-Refused c).After-rows-first) (r (goal.at.returns-in-Refused c).In-Refused) (told (goal.at.returns-in-Refused c).In-Refused)
 
 -- no refusal
 none : (t : In-Passed) → yes ≡ rows false (short (record { before = t.before.before.before.before; type_inv = record { out = t.slice_known-1.given; pairs = t.shared_slice_known-1.given } })) (ps (record { before = t.before.before.before.before; type_inv = record { out = t.slice_known-1.given; pairs = t.shared_slice_known-1.given } })) (qs (record { before = t.before.before.before.before; type_inv = record { out = t.slice_known-1.given; pairs = t.shared_slice_known-1.given } }))
-none t = ap ofChecked (sym t.in-Passed.is) ∙ t.rows-first.ensures.answer
+none t = ap of_checked (sym t.in-Passed.is) ∙ t.rows-first.ensures.answer
 
 pub make_sheet-requires : goal.make_sheet-requires
-make_sheet-requires c = sheet_may (ps (goal.at.make_sheet-requires c).After-rows-first) (qs (goal.at.make_sheet-requires c).After-rows-first) (out (goal.at.make_sheet-requires c).After-rows-first) (w (goal.at.make_sheet-requires c).After-rows-first) (short-is (goal.at.make_sheet-requires c).After-rows-first) (left (goal.at.make_sheet-requires c).After-rows-first) (none (goal.at.make_sheet-requires c).In-Passed)
+make_sheet-requires c = sheet_may (ps (goal.at.make_sheet-requires c).After-rows-first) (qs (goal.at.make_sheet-requires c).After-rows-first) (out (goal.at.make_sheet-requires c).After-rows-first) (w (goal.at.make_sheet-requires c).After-rows-first) (short_is (goal.at.make_sheet-requires c).After-rows-first) (left (goal.at.make_sheet-requires c).After-rows-first) (none (goal.at.make_sheet-requires c).In-Passed)
 
 pub returns-in-Passed : goal.returns-in-Passed
-returns-in-Passed c = passed_so (ps (goal.at.returns-in-Passed c).After-rows-first) (qs (goal.at.returns-in-Passed c).After-rows-first) (out (goal.at.returns-in-Passed c).After-rows-first) (w (goal.at.returns-in-Passed c).After-rows-first) (short-is (goal.at.returns-in-Passed c).After-rows-first) (left (goal.at.returns-in-Passed c).After-rows-first) (none (goal.at.returns-in-Passed c).In-Passed) c.make_sheet.ensures.passed c.make_sheet.ensures.work_after
+returns-in-Passed c = passed_so (ps (goal.at.returns-in-Passed c).After-rows-first) (qs (goal.at.returns-in-Passed c).After-rows-first) (out (goal.at.returns-in-Passed c).After-rows-first) (w (goal.at.returns-in-Passed c).After-rows-first) (short_is (goal.at.returns-in-Passed c).After-rows-first) (left (goal.at.returns-in-Passed c).After-rows-first) (none (goal.at.returns-in-Passed c).In-Passed) c.make_sheet.ensures.passed c.make_sheet.ensures.work_after

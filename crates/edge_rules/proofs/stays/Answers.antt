@@ -38,8 +38,8 @@ find-found-requires c = let p = c.requires in (
   p.1.indexed,
 )
 
-found-at : (c : In-At) → last (record { before = c.before.before.before.before; type_inv = record { work = c.shared_slice_known-3-1.given; list = c.shared_slice_known-1.given } }) ≡ suc c.in-At.g
-found-at c =
+found_at_it : (c : In-At) → last (record { before = c.before.before.before.before; type_inv = record { work = c.shared_slice_known-3-1.given; list = c.shared_slice_known-1.given } }) ≡ suc c.in-At.g
+found_at_it c =
     is_at (last (record { before = c.before.before.before.before; type_inv = record { work = c.shared_slice_known-3-1.given; list = c.shared_slice_known-1.given } })) c.in-At.g (sym c.in-At.is ∙ c.find-found.ensures ∙ sought (record { before = c.before.before.before.before; type_inv = record { work = c.shared_slice_known-3-1.given; list = c.shared_slice_known-1.given } }))
 
 pub turns-requires : goal.turns-requires
@@ -48,13 +48,13 @@ turns-requires c = let p = c.requires in (
   record { whole = p.1.whole; few = p.1.fits.few },
   p.1.corners,
   p.4,
-  low c.args.points.now c.args.list.now c.args.work.now c.args.h p.1.whole p.3 c.in-At.g (found-at (goal.at.turns-requires c).In-At),
+  low c.args.points.now c.args.list.now c.args.work.now c.args.h p.1.whole p.3 c.in-At.g (found_at_it (goal.at.turns-requires c).In-At),
 )
 
 pub returns-in-At : goal.returns-in-At
 returns-in-At c = let p = c.requires in
     ap not c.turns.ensures ∙ flip_stays c.args.points.now c.args.list.now c.args.work.now c.args.h p.1.whole p.3
-    c.in-At.g (found-at (goal.at.returns-in-At c).In-At) (eq-eqb _ _ c.if-work-n-ne0.false)
+    c.in-At.g (found_at_it (goal.at.returns-in-At c).In-At) (eq-eqb _ _ c.if-work-n-ne0.false)
 
 pub returns-in-Nowhere : goal.returns-in-Nowhere
 returns-in-Nowhere c = alone_stays c.args.points.now c.args.list.now c.args.work.now c.args.h (is_nowhere (last (goal.at.returns-in-Nowhere c).After-head) (sym c.in-Nowhere.is ∙ c.find-found.ensures ∙ sought (goal.at.returns-in-Nowhere c).After-head))

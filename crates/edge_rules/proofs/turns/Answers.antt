@@ -19,17 +19,17 @@ n c = point_count c.args.points.now
 next : (c : After-apex-2) → (h : ℕ) → h < length c.args.list.now → nxt h < length c.args.list.now
 next c h l = nxt_low h (length c.args.list.now) l c.requires.1.whole
 
-head-low : (c : After-apex-2) → c.head-b.result < (n c)
-head-low c = subst (λ (k : ℕ). k < (n c)) (sym c.head-b.ensures) (c.requires.2 (nxt c.args.h) ((next c) c.args.h c.requires.3))
+head_low : (c : After-apex-2) → c.head-b.result < (n c)
+head_low c = subst (λ (k : ℕ). k < (n c)) (sym c.head-b.ensures) (c.requires.2 (nxt c.args.h) ((next c) c.args.h c.requires.3))
 
-apex-low : (c : After-apex-2) → c.apex.result < (n c)
-apex-low c = subst (λ (k : ℕ). k < (n c)) (sym c.apex.ensures) (c.requires.2 (nxt (nxt c.args.h)) ((next c) (nxt c.args.h) ((next c) c.args.h c.requires.3)))
+apex_low : (c : After-apex-2) → c.apex.result < (n c)
+apex_low c = subst (λ (k : ℕ). k < (n c)) (sym c.apex.ensures) (c.requires.2 (nxt (nxt c.args.h)) ((next c) (nxt c.args.h) ((next c) c.args.h c.requires.3)))
 
-far-low : (c : After-apex-2) → c.apex-2.result < (n c)
-far-low c = subst (λ (k : ℕ). k < (n c)) (sym c.apex-2.ensures) (c.requires.2 (nxt (nxt c.args.g)) ((next c) (nxt c.args.g) ((next c) c.args.g c.requires.4)))
+far_low : (c : After-apex-2) → c.apex-2.result < (n c)
+far_low c = subst (λ (k : ℕ). k < (n c)) (sym c.apex-2.ensures) (c.requires.2 (nxt (nxt c.args.g)) ((next c) (nxt c.args.g) ((next c) c.args.g c.requires.4)))
 
 pub would_flip-requires : goal.would_flip-requires
-would_flip-requires c = record { near = c.requires.0; a_bound = (c.requires.2 c.args.h c.requires.3, head-low (goal.at.would_flip-requires c).After-apex-2, apex-low (goal.at.would_flip-requires c).After-apex-2, far-low (goal.at.would_flip-requires c).After-apex-2) }
+would_flip-requires c = record { near = c.requires.0; a_bound = (c.requires.2 c.args.h c.requires.3, head_low (goal.at.would_flip-requires c).After-apex-2, apex_low (goal.at.would_flip-requires c).After-apex-2, far_low (goal.at.would_flip-requires c).After-apex-2) }
 
 pub returns : goal.returns
 returns c = let ps = c.args.points.now in

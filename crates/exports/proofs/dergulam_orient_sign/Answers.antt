@@ -5,7 +5,7 @@ use mir.Syntax.{w32}
 use Rattle.algebra.proofs.Ring.{look}
 use Rattle.algebra.proofs.Machine.{Fit, backs_fit}
 use Rattle.plane.specs.Points.{at}
-use Rattle.signs.specs.Answers.{limit, orientAnswer, wholeNumber}
+use Rattle.signs.specs.Answers.{limit, orient_answer, whole_number}
 use Rattle.sign_numbers.proofs.Numbers.{whole_read}
 use Rattle.exports.proofs.dergulam_orient_sign.Goals as goal
 use Rattle.exports.proofs.dergulam_orient_sign.Goals.{Start}
@@ -18,5 +18,5 @@ fit c = (c.ranges.ax, (c.ranges.ay, (c.ranges.bx, (c.ranges.by, (c.ranges.cx, (c
 
 pub returns : goal.returns
 returns c = whole_read c.orient_sign.result c.number_of.ensures
-    ∙ ap wholeNumber (c.orient_sign.ensures ∙ ap
-    (λ (xs : List ℤ). orientAnswer limit (at (look xs 0) (look xs 1)) (at (look xs 2) (look xs 3)) (at (look xs 4) (look xs 5))) (backs_fit w32 (ρ (goal.at.returns c).Start) (fit (goal.at.returns c).Start)))
+    ∙ ap whole_number (c.orient_sign.ensures ∙ ap
+    (λ (xs : List ℤ). orient_answer limit (at (look xs 0) (look xs 1)) (at (look xs 2) (look xs 3)) (at (look xs 4) (look xs 5))) (backs_fit w32 (ρ (goal.at.returns c).Start) (fit (goal.at.returns c).Start)))

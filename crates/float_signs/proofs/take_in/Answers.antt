@@ -9,20 +9,20 @@ use Rattle.float_signs.proofs.Coordinate.{Bounded, not_finite, too_large_above, 
 use Rattle.float_signs.proofs.take_in.Goals as goal
 use Rattle.float_signs.proofs.take_in.Goals.{After-row_known-1, After-truncating_f64_to_i64-t, Else-x-2, Then-is_finite}
 
-is-fin : (c : Then-is_finite) → finite c.args.x ≡ true
-is-fin c = sym c.is_finite.ensures ∙ c.if-is_finite.true
+is_fin : (c : Then-is_finite) → finite c.args.x ≡ true
+is_fin c = sym c.is_finite.ensures ∙ c.if-is_finite.true
 
 pub returns-then-x : goal.returns-then-x
 unfolding of_bits
-returns-then-x c = too_large_above _ (is-fin (goal.at.returns-then-x c).Then-is_finite) c.if-x.true
+returns-then-x c = too_large_above _ (is_fin (goal.at.returns-then-x c).Then-is_finite) c.if-x.true
 
 pub returns-then-x-2 : goal.returns-then-x-2
 unfolding of_bits neg
-returns-then-x-2 c = too_large_below _ (is-fin (goal.at.returns-then-x-2 c).Then-is_finite) c.if-x-2.true
+returns-then-x-2 c = too_large_below _ (is_fin (goal.at.returns-then-x-2 c).Then-is_finite) c.if-x-2.true
 
 within : (c : Else-x-2) → Bounded c.args.x
 unfolding of_bits neg
-within c = bounded _ (is-fin c.before.before) c.if-x.false c.if-x-2.false
+within c = bounded _ (is_fin c.before.before) c.if-x.false c.if-x-2.false
 
 pub truncating_f64_to_i64-t-requires : goal.truncating_f64_to_i64-t-requires
 truncating_f64_to_i64-t-requires c = record {
@@ -34,23 +34,23 @@ truncating_f64_to_i64-t-requires c = record {
 t : After-truncating_f64_to_i64-t → ℤ
 t c = c.truncating_f64_to_i64-t.result
 
-t-mag : (c : After-truncating_f64_to_i64-t) → mag (t c) ≤ 8192
+t_mag : (c : After-truncating_f64_to_i64-t) → mag (t c) ≤ 8192
 unfolding t
-t-mag c = subst (λ (z : ℤ). mag z ≤ 8192) (sym c.truncating_f64_to_i64-t.ensures) (part_mag _ (within c.before))
+t_mag c = subst (λ (z : ℤ). mag z ≤ 8192) (sym c.truncating_f64_to_i64-t.ensures) (part_mag _ (within c.before))
 
-t-abs : (c : After-truncating_f64_to_i64-t) → nat_abs (t c) ≤ 8192
+t_abs : (c : After-truncating_f64_to_i64-t) → nat_abs (t c) ≤ 8192
 unfolding t
-t-abs c = subst (λ (z : ℤ). nat_abs z ≤ 8192) (sym c.truncating_f64_to_i64-t.ensures) (part_small _ (within c.before))
+t_abs c = subst (λ (z : ℤ). nat_abs z ≤ 8192) (sym c.truncating_f64_to_i64-t.ensures) (part_small _ (within c.before))
 
 read64 : (c : After-truncating_f64_to_i64-t) → to_z w64 (of_z w64 (t c)) ≡ t c
-read64 c = to_z-of_z w64 (t c) (record { sfits = lt_of_le_of_lt (t-mag c) (lit< tt) })
+read64 c = to_z-of_z w64 (t c) (record { sfits = lt_of_le_of_lt (t_mag c) (lit< tt) })
 
 fits32 : (c : After-truncating_f64_to_i64-t) → SFits w32 (t c)
-fits32 c = record { sfits = lt_of_le_of_lt (t-mag c) (lit< tt) }
+fits32 c = record { sfits = lt_of_le_of_lt (t_mag c) (lit< tt) }
 
 pub int_to_float-back : goal.int_to_float-back
 unfolding t
-int_to_float-back c = rw (read64 (goal.at.int_to_float-back c).After-truncating_f64_to_i64-t) (in_float_lem _ (t-abs (goal.at.int_to_float-back c).After-truncating_f64_to_i64-t))
+int_to_float-back c = rw (read64 (goal.at.int_to_float-back c).After-truncating_f64_to_i64-t) (in_float_lem _ (t_abs (goal.at.int_to_float-back c).After-truncating_f64_to_i64-t))
 
 pub overflow_cast-result : goal.overflow_cast-result
 unfolding t

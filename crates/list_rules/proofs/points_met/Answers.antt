@@ -17,8 +17,8 @@ use Rattle.list_rules.proofs.points_met.Goals as goal
 use Rattle.list_rules.proofs.points_met.Invariants.{met}
 
 -- an edge leaves i exactly if its head is not zero
-met-is : (n i : ℕ) (xs w : List ℕ) → Listed n xs w → i < n → (b : Bool) → eqb (get_or w i 0) 0 ≡ b → met xs i ≡ not b
-met-is n i xs w ls l b h =
+met_is : (n i : ℕ) (xs w : List ℕ) → Listed n xs w → i < n → (b : Bool) → eqb (get_or w i 0) 0 ≡ b → met xs i ≡ not b
+met_is n i xs w ls l b h =
     ap (λ (k : ℕ). any_to k (λ h. eqb (corner xs h) i)) (whole_length xs ls.whole) ∙ last_any (λ h. eqb (corner xs h) i) (length xs)
     ∙ ap (λ (m : ℕ). not (eqb m 0)) (sym (ls.indexed.heads i l)) ∙ ap not h
 
@@ -36,14 +36,14 @@ pub returns-then-work-i-eq0 : goal.returns-then-work-i-eq0
 returns-then-work-i-eq0 c = let i = c.loop-i.i in
     let l = c.loop-i-test.true in
     sym (all_fails (met c.args.list.now) c.args.n i l
-    (met-is c.args.n i c.args.list.now c.args.work.now c.requires l true (eq-eqb (get_or c.args.work.now i 0) 0 c.if-work-i-eq0.true)))
+    (met_is c.args.n i c.args.list.now c.args.work.now c.requires l true (eq-eqb (get_or c.args.work.now i 0) 0 c.if-work-i-eq0.true)))
 
 pub loop-i-preserved : goal.loop-i-preserved
 loop-i-preserved c = let l = c.loop-i in
     let t = c.loop-i-test.true in (
       omega arith,
       all_more (met c.args.list.now) l.i l.invariant.1
-          (met-is c.args.n l.i c.args.list.now c.args.work.now c.requires t false (ne_eqb (get_or c.args.work.now l.i 0) 0 c.if-work-i-eq0.false)),
+          (met_is c.args.n l.i c.args.list.now c.args.work.now c.requires t false (ne_eqb (get_or c.args.work.now l.i 0) 0 c.if-work-i-eq0.false)),
     )
 
 pub returns : goal.returns

@@ -30,11 +30,11 @@ b_point : (c : In-loop-k) → (b c) < point_count c.args.points.now
 b_point c = c.requires.ends (2 * c.loop-k.k + 1) (let h = (below c) in omega arith)
 
 -- So the reads of the ranks are within the working area.
-a-fits : (c : In-loop-k) → 16 * (a c) + 11 < length c.loop-k.work
-a-fits c = let h = (a_point c) in let e = c.loop-k.invariant.1 in omega arith
+a_fits : (c : In-loop-k) → 16 * (a c) + 11 < length c.loop-k.work
+a_fits c = let h = (a_point c) in let e = c.loop-k.invariant.1 in omega arith
 
-b-fits : (c : In-loop-k) → 16 * (b c) + 11 < length c.loop-k.work
-b-fits c = let h = (b_point c) in let e = c.loop-k.invariant.1 in omega arith
+b_fits : (c : In-loop-k) → 16 * (b c) + 11 < length c.loop-k.work
+b_fits c = let h = (b_point c) in let e = c.loop-k.invariant.1 in omega arith
 
 read : (c : In-loop-k) → (i : ℕ) → i < point_count c.args.points.now → get_or c.loop-k.work (rank_cell i) 0 ≡ rank c.args.points.now i
 read c i h = c.loop-k.invariant.2.below (rank_cell i) (let p = c.requires.points_bound in omega arith) ∙ c.requires.ordered.ranks i h
@@ -46,28 +46,28 @@ pub overflow_cast-b : goal.overflow_cast-b
 overflow_cast-b c = omega (arith, c.type_inv.pairs (2 * c.loop-k.k + 1))
 
 pub overflow_mul-r : goal.overflow_mul-r
-overflow_mul-r c = omega (arith, a-fits (goal.at.overflow_mul-r c).In-loop-k)
+overflow_mul-r c = omega (arith, a_fits (goal.at.overflow_mul-r c).In-loop-k)
 
 pub overflow_add-r : goal.overflow_add-r
-overflow_add-r c = omega (arith, a-fits (goal.at.overflow_add-r c).In-loop-k)
+overflow_add-r c = omega (arith, a_fits (goal.at.overflow_add-r c).In-loop-k)
 
 pub offset_bounds-work-a : goal.offset_bounds-work-a
-offset_bounds-work-a c = omega (arith, a-fits (goal.at.offset_bounds-work-a c).In-loop-k)
+offset_bounds-work-a c = omega (arith, a_fits (goal.at.offset_bounds-work-a c).In-loop-k)
 
 pub bounds-work-a : goal.bounds-work-a
-bounds-work-a c = omega (arith, a-fits (goal.at.bounds-work-a c).In-loop-k)
+bounds-work-a c = omega (arith, a_fits (goal.at.bounds-work-a c).In-loop-k)
 
 pub overflow_mul-s : goal.overflow_mul-s
-overflow_mul-s c = omega (arith, b-fits (goal.at.overflow_mul-s c).In-loop-k)
+overflow_mul-s c = omega (arith, b_fits (goal.at.overflow_mul-s c).In-loop-k)
 
 pub overflow_add-s : goal.overflow_add-s
-overflow_add-s c = omega (arith, b-fits (goal.at.overflow_add-s c).In-loop-k)
+overflow_add-s c = omega (arith, b_fits (goal.at.overflow_add-s c).In-loop-k)
 
 pub offset_bounds-work-b : goal.offset_bounds-work-b
-offset_bounds-work-b c = omega (arith, b-fits (goal.at.offset_bounds-work-b c).In-loop-k)
+offset_bounds-work-b c = omega (arith, b_fits (goal.at.offset_bounds-work-b c).In-loop-k)
 
 pub bounds-work-b : goal.bounds-work-b
-bounds-work-b c = omega (arith, b-fits (goal.at.bounds-work-b c).In-loop-k)
+bounds-work-b c = omega (arith, b_fits (goal.at.bounds-work-b c).In-loop-k)
 
 pub loop-k-preserved : goal.loop-k-preserved
 loop-k-preserved c = let i = c.loop-k.invariant in

@@ -19,11 +19,11 @@ pub returns-in-At : goal.returns-in-At
 returns-in-At c = record { result_value = sym (row_at_stops 8 _ (sym c.bad_pair-bad.ensures ∙ c.in-At.is)); rest = rest_none _ _ }
 
 -- row 8 is passed
-none-8 : (c : In_default) → lowest (pair_count c.args.pairs.now) (bad_pair (point_count c.args.points.now) c.args.pairs.now) ≡ Nowhere
-none-8 c = sym c.bad_pair-bad.ensures ∙ c.in_default.is
+none_8 : (c : In_default) → lowest (pair_count c.args.pairs.now) (bad_pair (point_count c.args.points.now) c.args.pairs.now) ≡ Nowhere
+none_8 c = sym c.bad_pair-bad.ensures ∙ c.in_default.is
 
 ends : (c : In_default) → Ends c.args.points.now c.args.pairs.now
-ends c = ends_points c.args.points.now c.args.pairs.now c.requires.pairs_len.0 (none-8 c)
+ends c = ends_points c.args.points.now c.args.pairs.now c.requires.pairs_len.0 (none_8 c)
 
 near : (c : In_default) → Near c.args.points.now
 near c = near_list c.args.points.now c.requires.figure.even c.requires.figure.near
@@ -46,7 +46,7 @@ pub rows_9_and_10_ordered-requires : goal.rows_9_and_10_ordered-requires
 rows_9_and_10_ordered-requires c = record { figure = c.requires.figure; ends = ends (goal.at.rows_9_and_10_ordered-requires c).In_default; points_in_bounds = (c.requires.pairs_len.1, held (goal.at.rows_9_and_10_ordered-requires c).Else-n-m) }
 
 pub returns-then-n-m : goal.returns-then-n-m
-returns-then-n-m c = record { result_value = c.rows_9_and_10_each.ensures ∙ sym (row_at_passes 8 _ (none-8 (goal.at.returns-then-n-m c).In_default)); rest = rest_none _ _ }
+returns-then-n-m c = record { result_value = c.rows_9_and_10_each.ensures ∙ sym (row_at_passes 8 _ (none_8 (goal.at.returns-then-n-m c).In_default)); rest = rest_none _ _ }
 
 pub returns-else-n-m : goal.returns-else-n-m
-returns-else-n-m c = record { result_value = c.rows_9_and_10_ordered.ensures.result_value ∙ sym (row_at_passes 8 _ (none-8 (goal.at.returns-else-n-m c).In_default)); rest = c.rows_9_and_10_ordered.ensures.rest }
+returns-else-n-m c = record { result_value = c.rows_9_and_10_ordered.ensures.result_value ∙ sym (row_at_passes 8 _ (none_8 (goal.at.returns-else-n-m c).In_default)); rest = c.rows_9_and_10_ordered.ensures.rest }

@@ -30,11 +30,11 @@ pub returns-in-At : goal.returns-in-At
 returns-in-At c = record { result_value = sym (row_at_stops 9 _ (sym c.blocked_pair-blocked.ensures ∙ c.in-At.is)); rest = rest (goal.at.returns-in-At c).After-rank_points }
 
 -- row 9 is passed
-none-9 : (c : In_default) → lowest (pair_count c.args.pairs.now) (blocked c.args.points.now c.args.pairs.now) ≡ Nowhere
-none-9 c = sym c.blocked_pair-blocked.ensures ∙ c.in_default.is
+none_9 : (c : In_default) → lowest (pair_count c.args.pairs.now) (blocked c.args.points.now c.args.pairs.now) ≡ Nowhere
+none_9 c = sym c.blocked_pair-blocked.ensures ∙ c.in_default.is
 
 pub crossing_pair-requires : goal.crossing_pair-requires
 crossing_pair-requires c = record { figure = c.requires.figure; ends = c.requires.ends; ordered = (c.rank_points.ensures.ordered, long (goal.at.crossing_pair-requires c).After-rank_points, c.requires.points_in_bounds.1) }
 
 pub returns : goal.returns
-returns c = record { result_value = c.row_10.ensures ∙ sym (row_at_passes 9 _ (none-9 (goal.at.returns c).In_default) ∙ ap (λ (l : Lowest). row_at 10 l yes) (sym c.crossing_pair.ensures.value)); rest = rest_then (rest (goal.at.returns c).After-rank_points) c.crossing_pair.ensures.rest }
+returns c = record { result_value = c.row_10.ensures ∙ sym (row_at_passes 9 _ (none_9 (goal.at.returns c).In_default) ∙ ap (λ (l : Lowest). row_at 10 l yes) (sym c.crossing_pair.ensures.value)); rest = rest_then (rest (goal.at.returns c).After-rank_points) c.crossing_pair.ensures.rest }

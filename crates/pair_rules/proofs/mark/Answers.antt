@@ -16,21 +16,21 @@ use Rattle.pair_rules.proofs.mark.Goals.{After-find-found, In-At, In-Nowhere}
 abbrev last : (c : After-find-found) → ℕ
 last c = last_edge c.args.list.now c.args.u c.args.v (length c.args.list.now)
 
-found-at : (c : In-At) → last (record { before = c.before.before; type_inv = record { list = c.shared_slice_known-1.given } }) ≡ suc c.in-At.h
-found-at c = is_at (last (record { before = c.before.before; type_inv = record { list = c.shared_slice_known-1.given } })) c.in-At.h (sym c.in-At.is ∙ c.find-found.ensures)
+found_at : (c : In-At) → last (record { before = c.before.before; type_inv = record { list = c.shared_slice_known-1.given } }) ≡ suc c.in-At.h
+found_at c = is_at (last (record { before = c.before.before; type_inv = record { list = c.shared_slice_known-1.given } })) c.in-At.h (sym c.in-At.is ∙ c.find-found.ensures)
 
 found_none : (c : In-Nowhere) → last (record { before = c.before.before; type_inv = record { list = c.shared_slice_known-1.given } }) ≡ 0
 found_none c = is_nowhere (last (record { before = c.before.before; type_inv = record { list = c.shared_slice_known-1.given } })) (sym c.in-Nowhere.is ∙ c.find-found.ensures)
 
 spot : (c : In-At) → 7 * c.args.n + c.in-At.h < length c.args.work.now
 spot c =
-    spot_low c.args.n c.args.list.now c.args.work.now c.requires.0 c.requires.1 c.requires.2 c.args.u c.args.v c.in-At.h (found-at c)
+    spot_low c.args.n c.args.list.now c.args.work.now c.requires.0 c.requires.1 c.requires.2 c.args.u c.args.v c.in-At.h (found_at c)
 
 pub returns-in-At : goal.returns-in-At
 returns-in-At c = record {
   found = sym (last_any (λ h. edge_is c.args.list.now h c.args.u c.args.v) (length c.args.list.now)
-      ∙ ap (λ (m : ℕ). not (eqb m 0)) (found-at (goal.at.returns-in-At c).In-At) ∙ ap not (eqb-suc-zero c.in-At.h));
-  marks = paints c.args.n c.args.list.now c.args.work.now c.requires.0 c.requires.1 c.requires.2 c.args.u c.args.v c.in-At.h (found-at (goal.at.returns-in-At c).In-At);
+      ∙ ap (λ (m : ℕ). not (eqb m 0)) (found_at (goal.at.returns-in-At c).In-At) ∙ ap not (eqb-suc-zero c.in-At.h));
+  marks = paints c.args.n c.args.list.now c.args.work.now c.requires.0 c.requires.1 c.requires.2 c.args.u c.args.v c.in-At.h (found_at (goal.at.returns-in-At c).In-At);
 }
 
 pub returns-in-Nowhere : goal.returns-in-Nowhere

@@ -16,8 +16,8 @@ use Rattle.pair_rules.proofs.pairs_met.Goals.{After-mark_both}
 use Rattle.pair_rules.proofs.pairs_met.Invariants.{met}
 
 -- one pair's answer
-met-is : (qs xs : List ℕ) (k : ℕ) (r b : Bool) → length xs % 3 ≡ 0 → r ≡ any_to (length xs) (λ h. joins qs xs h k) → r ≡ b → met qs xs k ≡ b
-met-is qs xs k r b w e h = ap (λ (n : ℕ). any_to n (λ h. joins qs xs h k)) (whole_length xs w) ∙ sym e ∙ h
+met_is : (qs xs : List ℕ) (k : ℕ) (r b : Bool) → length xs % 3 ≡ 0 → r ≡ any_to (length xs) (λ h. joins qs xs h k) → r ≡ b → met qs xs k ≡ b
+met_is qs xs k r b w e h = ap (λ (n : ℕ). any_to n (λ h. joins qs xs h k)) (whole_length xs w) ∙ sym e ∙ h
 
 pub loop-k-init : goal.loop-k-init
 unfolding all_to
@@ -43,7 +43,7 @@ painted c = paint_more c.args.n c.args.pairs.now c.args.list.now (k c) c.args.wo
     c.loop-k.work c.mark_both.new.work c.loop-k.invariant.2 c.mark_both.ensures.marks
 
 answer : (c : After-mark_both) → (b : Bool) → c.mark_both.result ≡ b → met c.args.pairs.now c.args.list.now (k c) ≡ b
-answer c b h = met-is c.args.pairs.now c.args.list.now (k c) c.mark_both.result b c.requires.0.whole c.mark_both.ensures.found h
+answer c b h = met_is c.args.pairs.now c.args.list.now (k c) c.mark_both.result b c.requires.0.whole c.mark_both.ensures.found h
 
 pub returns-then-not-mark_both : goal.returns-then-not-mark_both
 unfolding rule6

@@ -2,7 +2,7 @@ use mathlib.Core.Path.{◌≡◌, refl, ◌∙◌}
 use mathlib.Core.List.{List, [], ◌∷◌}
 use lib.IntN.{ℤ}
 use Rattle.segments.proofs.Points.{row, also}
-use Rattle.segments.proofs.Answers.{circle-read}
+use Rattle.segments.proofs.Answers.{circle_read}
 use Rattle.segments.proofs.circle_at.Goals as goal
 use Rattle.segments.proofs.circle_at.Goals.{After-y_at-dy}
 
@@ -20,4 +20,4 @@ read c =
     (also ps c.args.d [] c.x_at-dx.ensures c.y_at-dy.ensures refl)))
 
 pub returns : goal.returns
-returns c = c.known.ensures ∙ circle-read c.args.points.now c.requires.near c.args.a c.args.b c.args.c c.args.d (read (goal.at.returns c).After-y_at-dy) c.circle_sign.ensures
+returns c = c.known.ensures ∙ circle_read c.args.points.now c.requires.near c.args.a c.args.b c.args.c c.args.d (read (goal.at.returns c).After-y_at-dy) c.circle_sign.ensures

@@ -16,76 +16,76 @@ abbrev b : (s : Start) → ℕ
 b s = end_b s.args.pairs.now s.args.k
 
 -- The pair's ends are points.
-low-a : (s : Start) → (a s) < point_count s.args.points.now
-low-a s = s.requires.ends (2 * s.args.k) (omega arith)
+low_a : (s : Start) → (a s) < point_count s.args.points.now
+low_a s = s.requires.ends (2 * s.args.k) (omega arith)
 
-low-b : (s : Start) → (b s) < point_count s.args.points.now
-low-b s = s.requires.ends (2 * s.args.k + 1) (omega arith)
+low_b : (s : Start) → (b s) < point_count s.args.points.now
+low_b s = s.requires.ends (2 * s.args.k + 1) (omega arith)
 
 -- The code reads their ranks.
-rank-a : (s : Start) → get_or s.args.work.now (rank_cell (a s)) 0 ≡ rank s.args.points.now (a s)
-rank-a s = s.requires.ordered.0.ranks (a s) (low-a s)
+rank_a : (s : Start) → get_or s.args.work.now (rank_cell (a s)) 0 ≡ rank s.args.points.now (a s)
+rank_a s = s.requires.ordered.0.ranks (a s) (low_a s)
 
-rank-b : (s : Start) → get_or s.args.work.now (rank_cell (b s)) 0 ≡ rank s.args.points.now (b s)
-rank-b s = s.requires.ordered.0.ranks (b s) (low-b s)
+rank_b : (s : Start) → get_or s.args.work.now (rank_cell (b s)) 0 ≡ rank s.args.points.now (b s)
+rank_b s = s.requires.ordered.0.ranks (b s) (low_b s)
 
-small-a : (s : Start) → rank s.args.points.now (a s) < point_count s.args.points.now
-small-a s = rank_below s.args.points.now (a s) (low-a s)
+small_a : (s : Start) → rank s.args.points.now (a s) < point_count s.args.points.now
+small_a s = rank_below s.args.points.now (a s) (low_a s)
 
 small_b : (s : Start) → rank s.args.points.now (b s) < point_count s.args.points.now
-small_b s = rank_below s.args.points.now (b s) (low-b s)
+small_b s = rank_below s.args.points.now (b s) (low_b s)
 
 pub holds_point-requires : goal.holds_point-requires
-holds_point-requires c = let la = low-a (goal.at.holds_point-requires c).Start in
-    let lb = low-b (goal.at.holds_point-requires c).Start in
-    let ra = rank-a (goal.at.holds_point-requires c).Start in
-    let rb = rank-b (goal.at.holds_point-requires c).Start in
+holds_point-requires c = let la = low_a (goal.at.holds_point-requires c).Start in
+    let lb = low_b (goal.at.holds_point-requires c).Start in
+    let ra = rank_a (goal.at.holds_point-requires c).Start in
+    let rb = rank_b (goal.at.holds_point-requires c).Start in
     let sb = small_b (goal.at.holds_point-requires c).Start in
     record { figure = c.requires.figure; ordered = c.requires.ordered; a_bound = (la, lb, omega arith); lo_bound = (omega arith, omega arith, omega arith, omega arith) }
 
 pub holds_point-requires-else-s-t : goal.holds_point-requires-else-s-t
-holds_point-requires-else-s-t c = let la = low-a (goal.at.holds_point-requires-else-s-t c).Start in
-    let lb = low-b (goal.at.holds_point-requires-else-s-t c).Start in
-    let ra = rank-a (goal.at.holds_point-requires-else-s-t c).Start in
-    let rb = rank-b (goal.at.holds_point-requires-else-s-t c).Start in
-    let sa = small-a (goal.at.holds_point-requires-else-s-t c).Start in
+holds_point-requires-else-s-t c = let la = low_a (goal.at.holds_point-requires-else-s-t c).Start in
+    let lb = low_b (goal.at.holds_point-requires-else-s-t c).Start in
+    let ra = rank_a (goal.at.holds_point-requires-else-s-t c).Start in
+    let rb = rank_b (goal.at.holds_point-requires-else-s-t c).Start in
+    let sa = small_a (goal.at.holds_point-requires-else-s-t c).Start in
     record { figure = c.requires.figure; ordered = c.requires.ordered; a_bound = (la, lb, omega arith); lo_bound = (omega arith, omega arith, omega arith, omega arith) }
 
 pub overflow_cast-a : goal.overflow_cast-a
-overflow_cast-a c = omega (arith, low-a (goal.at.overflow_cast-a c).Start)
+overflow_cast-a c = omega (arith, low_a (goal.at.overflow_cast-a c).Start)
 
 pub overflow_cast-b : goal.overflow_cast-b
-overflow_cast-b c = omega (arith, low-b (goal.at.overflow_cast-b c).Start)
+overflow_cast-b c = omega (arith, low_b (goal.at.overflow_cast-b c).Start)
 
 pub overflow_mul-s : goal.overflow_mul-s
-overflow_mul-s c = omega (arith, low-a (goal.at.overflow_mul-s c).Start)
+overflow_mul-s c = omega (arith, low_a (goal.at.overflow_mul-s c).Start)
 
 pub overflow_add-s : goal.overflow_add-s
-overflow_add-s c = omega (arith, low-a (goal.at.overflow_add-s c).Start)
+overflow_add-s c = omega (arith, low_a (goal.at.overflow_add-s c).Start)
 
 pub offset_bounds-work-a : goal.offset_bounds-work-a
-offset_bounds-work-a c = omega (arith, low-a (goal.at.offset_bounds-work-a c).Start)
+offset_bounds-work-a c = omega (arith, low_a (goal.at.offset_bounds-work-a c).Start)
 
 pub bounds-work-a : goal.bounds-work-a
-bounds-work-a c = omega (arith, low-a (goal.at.bounds-work-a c).Start)
+bounds-work-a c = omega (arith, low_a (goal.at.bounds-work-a c).Start)
 
 pub overflow_cast-s : goal.overflow_cast-s
-overflow_cast-s c = omega (arith, rank-a (goal.at.overflow_cast-s c).Start, small-a (goal.at.overflow_cast-s c).Start)
+overflow_cast-s c = omega (arith, rank_a (goal.at.overflow_cast-s c).Start, small_a (goal.at.overflow_cast-s c).Start)
 
 pub overflow_mul-t : goal.overflow_mul-t
-overflow_mul-t c = omega (arith, low-b (goal.at.overflow_mul-t c).Start)
+overflow_mul-t c = omega (arith, low_b (goal.at.overflow_mul-t c).Start)
 
 pub overflow_add-t : goal.overflow_add-t
-overflow_add-t c = omega (arith, low-b (goal.at.overflow_add-t c).Start)
+overflow_add-t c = omega (arith, low_b (goal.at.overflow_add-t c).Start)
 
 pub offset_bounds-work-b : goal.offset_bounds-work-b
-offset_bounds-work-b c = omega (arith, low-b (goal.at.offset_bounds-work-b c).Start)
+offset_bounds-work-b c = omega (arith, low_b (goal.at.offset_bounds-work-b c).Start)
 
 pub bounds-work-b : goal.bounds-work-b
-bounds-work-b c = omega (arith, low-b (goal.at.bounds-work-b c).Start)
+bounds-work-b c = omega (arith, low_b (goal.at.bounds-work-b c).Start)
 
 pub overflow_cast-t : goal.overflow_cast-t
-overflow_cast-t c = omega (arith, rank-b (goal.at.overflow_cast-t c).Start, small_b (goal.at.overflow_cast-t c).Start)
+overflow_cast-t c = omega (arith, rank_b (goal.at.overflow_cast-t c).Start, small_b (goal.at.overflow_cast-t c).Start)
 
 pub returns-then-s-t : goal.returns-then-s-t
 returns-then-s-t c = c.holds_point.ensures

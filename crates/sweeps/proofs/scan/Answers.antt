@@ -25,8 +25,8 @@ m s = pair_count (qs s)
 small : (s : Start) → (q : ℕ) → q < (m s) → number (w s) s.args.at q < (m s)
 small s q h = s.requires.row.small q h
 
-j-small : (s : Start) → number (w s) s.args.at s.args.p < (m s)
-j-small s = (small s) s.args.p (omega arith)
+j_small : (s : Start) → number (w s) s.args.at s.args.p < (m s)
+j_small s = (small s) s.args.p (omega arith)
 
 pub overflow_cast-j : goal.overflow_cast-j
 overflow_cast-j c = omega (arith, c.type_inv.work (c.args.at + 3 * c.args.p + 2))
@@ -60,7 +60,7 @@ pub overflow_cast-k : goal.overflow_cast-k
 overflow_cast-k c = omega (arith, c.type_inv.work (c.args.at + 3 * c.loop-q.q + 2))
 
 pub lowered-kept-requires : goal.lowered-kept-requires
-lowered-kept-requires c = let j = j-small (goal.at.lowered-kept-requires c).Start in
+lowered-kept-requires c = let j = j_small (goal.at.lowered-kept-requires c).Start in
     let k = small (goal.at.lowered-kept-requires c).Start c.loop-q.q (omega arith) in
     let a = c.requires.ends (2 * number (w (goal.at.lowered-kept-requires c).Start) c.args.at c.args.p) (omega arith) in
     let b = c.requires.ends (2 * number (w (goal.at.lowered-kept-requires c).Start) c.args.at c.args.p + 1) (omega arith) in
@@ -83,22 +83,22 @@ returns c = let o = c.loop-q.invariant.2 in (
 )
 
 pub overflow_mul-a : goal.overflow_mul-a
-overflow_mul-a c = omega (arith, j-small (goal.at.overflow_mul-a c).Start)
+overflow_mul-a c = omega (arith, j_small (goal.at.overflow_mul-a c).Start)
 
 pub offset_bounds-pairs-j : goal.offset_bounds-pairs-j
-offset_bounds-pairs-j c = omega (arith, j-small (goal.at.offset_bounds-pairs-j c).Start)
+offset_bounds-pairs-j c = omega (arith, j_small (goal.at.offset_bounds-pairs-j c).Start)
 
 pub bounds-pairs-j : goal.bounds-pairs-j
-bounds-pairs-j c = omega (arith, j-small (goal.at.bounds-pairs-j c).Start)
+bounds-pairs-j c = omega (arith, j_small (goal.at.bounds-pairs-j c).Start)
 
 pub overflow_mul-b : goal.overflow_mul-b
-overflow_mul-b c = omega (arith, j-small (goal.at.overflow_mul-b c).Start)
+overflow_mul-b c = omega (arith, j_small (goal.at.overflow_mul-b c).Start)
 
 pub overflow_add-b : goal.overflow_add-b
-overflow_add-b c = omega (arith, j-small (goal.at.overflow_add-b c).Start)
+overflow_add-b c = omega (arith, j_small (goal.at.overflow_add-b c).Start)
 
 pub offset_bounds-pairs-j-2 : goal.offset_bounds-pairs-j-2
-offset_bounds-pairs-j-2 c = omega (arith, j-small (goal.at.offset_bounds-pairs-j-2 c).Start)
+offset_bounds-pairs-j-2 c = omega (arith, j_small (goal.at.offset_bounds-pairs-j-2 c).Start)
 
 pub bounds-pairs-j-2 : goal.bounds-pairs-j-2
-bounds-pairs-j-2 c = omega (arith, j-small (goal.at.bounds-pairs-j-2 c).Start)
+bounds-pairs-j-2 c = omega (arith, j_small (goal.at.bounds-pairs-j-2 c).Start)

@@ -25,8 +25,8 @@ end_is c = c.word_end-end.ensures.0 ∙ ap (word_end (text c)) (start_is c)
 some : (c : After-word_at) → word_start (text c) c.args.from < length (text c)
 some c = let e = (start_is c) in let l = c.if-text-start.false in omega arith
 
-next-is : (c : After-word_at) → c.word_at.result ≡ next_word (text c) c.args.from
-next-is c = c.word_at.ensures ∙ ap₂ (word_at (text c)) (start_is c) (end_is c) ∙ next_some (text c) c.args.from (some c)
+next_is : (c : After-word_at) → c.word_at.result ≡ next_word (text c) c.args.from
+next_is c = c.word_at.ensures ∙ ap₂ (word_at (text c)) (start_is c) (end_is c) ∙ next_some (text c) c.args.from (some c)
 
 pub returns : goal.returns
-returns c = next-is (goal.at.returns c).After-word_at
+returns c = next_is (goal.at.returns c).After-word_at
