@@ -80,9 +80,6 @@ room c = c.requires c.if-short.false
 few : (c : Else-short) → point_count c.args.points.now ≤ 4096
 few c = c.if-points-gt-MOST_POINTS.false
 
-pub rows_4_to_10-answer-requires : goal.rows_4_to_10-answer-requires
-rows_4_to_10-answer-requires c = record { points_len = (c.if-points-ne0.false, c.if-pairs-ne0.false); bound = (c.if-points-lt3.false, few (goal.at.rows_4_to_10-answer-requires c).Else-short, room (goal.at.rows_4_to_10-answer-requires c).Else-short) }
-
 pub overflow_mul-points : goal.overflow_mul-points
 overflow_mul-points c = let a = few (goal.at.overflow_mul-points c).Else-short in omega arith
 
