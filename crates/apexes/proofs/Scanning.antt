@@ -1,6 +1,6 @@
 -- The tests of the code are the tests of the model, and a loop that keeps the choice up to a place keeps it up to the next. Assumes nothing.
 use mathlib.Core.Bool.{Bool, true, false, cond}
-use mathlib.Core.Path.{◌≡◌, sym, ap, ◌∙◌}
+use mathlib.Core.Path.{◌≡◌, refl, sym, ap, ◌∙◌}
 use Prim.Native.Nat.{ℕ, suc, ◌+◌, ◌-◌, ◌≤◌, ◌<◌}
 use native.Mathlib.Omega.{arith}
 use lib.IntN.{ℤ, neg_ℤ}
@@ -26,6 +26,14 @@ module _ (z : ℤ) {s : Sign} (e : s ≡ sign_z z) where
 
   pub pos_no : s ≡ Neg → false ≡ posb z
   pos_no q = pos_told z e (sym (ap is_pos q))
+
+  pub pos_not : ¬ (s ≡ Pos) → false ≡ posb z
+  pos_not n = pos_told z e (no s n)
+    where
+      no : (t : Sign) → ¬ (t ≡ Pos) → false ≡ is_pos t
+      no Neg m = refl
+      no Zero m = refl
+      no Pos m = absurd (m refl)
 
   pub neg_yes : s ≡ Neg → true ≡ posb (neg_ℤ z)
   neg_yes q = neg_told z e (sym (ap is_neg q))

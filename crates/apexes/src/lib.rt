@@ -19,12 +19,7 @@ fn inside(points: &[i32], a: usize, b: usize, c: usize, d: usize) -> bool
     requires a_bound { (a < point_count points.now) × (b < point_count points.now) × (c < point_count points.now) × (d < point_count points.now) }
     ensures { result ≡ posb (incircle (point points.now a) (point points.now b) (point points.now c) (point points.now d)) }
 {
-    let sign = segments::circle_at(points, a, b, c, d);
-    match sign {
-        Sign::Pos => true,
-        Sign::Zero => false,
-        Sign::Neg => false,
-    }
+    matches!(segments::circle_at(points, a, b, c, d), Sign::Pos)
 }
 
 // v replaces the choice c over the base a b: c is collinear with the base, or v is strictly inside the circle through a, b and c.
@@ -49,18 +44,12 @@ pub fn choose(points: &[i32], work: &[u32], n: usize, count: usize, i: usize, j:
     let a = seams::corner(work, n, i);
     let b = seams::corner(work, n, j);
     let mut k = i + 1;
-    let mut x = i + 2;
-    while x < j {
-        if replaces(
-            points,
-            a,
-            b,
-            seams::corner(work, n, k),
-            seams::corner(work, n, x),
-        ) {
+    for x in i + 2..j {
+        let c = seams::corner(work, n, k);
+        let v = seams::corner(work, n, x);
+        if replaces(points, a, b, c, v) {
             k = x;
         }
-        x += 1;
     }
     k
 }

@@ -9,8 +9,6 @@ ghost use Rattle.tables.specs.Data.{point_count, clockwise};
 ghost use Rattle.tables.specs.Refusals.{no_area, outside};
 ghost use Rattle.base_checks.specs.Base.{outside_of};
 
-use tables::Lowest;
-
 // ---- row 5, and how the base turns
 
 // Points 0, 1 and 2 lie on a line.
@@ -39,31 +37,21 @@ fn is_outside(points: &[i32], b: usize, c: usize, i: usize) -> bool
     requires b_bound { (b < point_count points.now) × (c < point_count points.now) × (i < point_count points.now) }
     ensures { result ≡ outside_of points.now b c i }
 {
-    if segments::is_right(points, 0, b, i) {
-        return true;
-    }
-    if segments::is_right(points, b, c, i) {
-        return true;
-    }
-    segments::is_right(points, c, 0, i)
+    segments::is_right(points, 0, b, i)
+        || segments::is_right(points, b, c, i)
+        || segments::is_right(points, c, 0, i)
 }
 
-fn outside_base(points: &[i32], b: usize, c: usize) -> Lowest
+fn outside_base(points: &[i32], b: usize, c: usize) -> Option<usize>
     requires near { Near points.now }
     requires b_bound { (b < point_count points.now) × (c < point_count points.now) }
     ensures { result ≡ lowest (point_count points.now) (outside_of points.now b c) }
 {
-    let n = points.len() / 2;
-    for i in 0..n {
-        if is_outside(points, b, c, i) {
-            return Lowest::At(i);
-        }
-    }
-    Lowest::Nowhere
+    (0..points.len() / 2).find(|&i| is_outside(points, b, c, i))
 }
 
 // The lowest point outside the closed base.
-pub fn outside_point(points: &[i32]) -> Lowest
+pub fn outside_point(points: &[i32]) -> Option<usize>
     requires near { Near points.now }
     requires bound { 3 ≤ point_count points.now }
     ensures { result ≡ lowest (point_count points.now) (outside points.now) }

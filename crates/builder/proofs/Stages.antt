@@ -2,7 +2,7 @@
 use mathlib.Core.Bool.{Bool, true, false, cond}
 use mathlib.Core.List.{List}
 use mathlib.Core.Path.{◌≡◌, refl, sym, ap, ap₂, ◌∙◌, subst}
-use Prim.Native.Nat.{ℕ, zero, suc, ◌+◌, ◌-◌, ◌*◌, ◌<◌, ◌≤◌}
+use Prim.Native.Nat.{ℕ, suc, ◌+◌, ◌-◌, ◌*◌, ◌<◌, ◌≤◌}
 use native.Mathlib.Omega.{arith}
 use lib.IntN.{ℤ}
 use lib.ListN.{length, get_or}
@@ -13,7 +13,7 @@ use Rattle.tables.proofs.Table.{not_outside}
 use Rattle.nets.specs.Building.{BuildsTo, BuiltFrom, alone, more, start, base_rec, second_corner, third_corner}
 use Rattle.nets.specs.Flipping.{Legal}
 use Rattle.nets.specs.Layout.{net_of, born, Kept}
-use Rattle.nets.specs.Location.{Split, locate, less, split_in, inserted}
+use Rattle.nets.specs.Location.{Split, locate, split_in, inserted}
 use Rattle.nets.specs.Nets.{Net}
 use Rattle.nets.specs.Slots.{write}
 use Rattle.nets.specs.Tilings.{Tiling}
@@ -22,7 +22,10 @@ use Rattle.nets.proofs.Insert.{Inserted, More, two_more, one_more}
 use Rattle.nets.proofs.Keeps.{born_kept}
 use Rattle.nets.proofs.Places.{net_born}
 use Rattle.nets.proofs.Walk.{located_by}
+use Rattle.std.specs.Prelude.{Option, Some, None, IsSome}
+use Rattle.std.proofs.Common.{rules}
 use Rattle.suspects.specs.Stack.{stack}
+use Rattle.turns.specs.Numbers.{suc_or_0}
 use Rattle.wants.specs.Tries.{Ready}
 use Rattle.splitting.specs.Splits.{Tiled, Grown}
 use Rattle.builder.specs.Stages.{Ranks, Stage, Begun, Delaunay}
@@ -53,21 +56,18 @@ module _ {ps : List ℤ} {o : Net} {k : ℕ} {w : List ℕ} {T z : ℕ} (s : Sta
         let r = located_by stage_built.tile (point ps k) (not_outside ps k (s.figure.within k kn)) z stage_newest in
         (r.0, r.1, r.2)
 
-    pub stage_slot : (f : ℕ) → f ≡ locate (point ps) m (point ps k) z → (0 < f) × (f - 1 < T)
-    stage_slot f e = let r = stage_found in let q : f ≡ suc r.0 = e ∙ r.2 in let l = r.1 in (omega arith, omega arith)
+    pub stage_some : (f : Option ℕ) → suc_or_0 f ≡ locate (point ps) m (point ps k) z → IsSome f
+    stage_some None e = let q : 0 ≡ suc stage_found.0 = e ∙ stage_found.2 in absurd (let f : ⊥ = omega arith in f)
+    stage_some (Some t) e = search rules
+
+    pub stage_slot : {t : ℕ} → suc t ≡ locate (point ps) m (point ps k) z → t < T
+    stage_slot {t} e = let r = stage_found in let q : suc t ≡ suc r.0 = e ∙ r.2 in let l = r.1 in omega arith
 
     -- the split is the one that the steps ask for
-    less_is : (f : ℕ) → f - 1 ≡ less f
-    less_is zero = omega arith
-    less_is (suc f) = omega arith
-
-    pub stage_split : (f : ℕ) → f ≡ locate (point ps) m (point ps k) z → split_in (point ps) m (f - 1) k ≡ inserted (point ps) m z k
+    pub split_grown : {t : ℕ} → suc t ≡ locate (point ps) m (point ps k) z → {w1 : List ℕ} {c many : ℕ} →
+        Grown ps w (split_in (point ps) m t k) w1 c many → Grown ps w (inserted (point ps) m z k) w1 c many
     unfolding inserted
-    stage_split f e = ap (λ (x : ℕ). split_in (point ps) m x k) (less_is f ∙ ap less e)
-
-    pub split_grown : (f : ℕ) → f ≡ locate (point ps) m (point ps k) z → {w1 : List ℕ} {c many : ℕ} →
-        Grown ps w (split_in (point ps) m (f - 1) k) w1 c many → Grown ps w (inserted (point ps) m z k) w1 c many
-    split_grown f e {w1} {c} {many} g = subst (λ (x : Split). Grown ps w x w1 c many) (stage_split f e) g
+    split_grown e {w1} {c} {many} g = rw (← e) g
 
     abbrev q : Split
     q = inserted (point ps) m z k

@@ -1,5 +1,5 @@
 -- How far the building steps have come in the working area, and what they leave when all points are in. Definitions only.
-use Rattle.std.specs.Prelude.{List, ◌≡◌, ℕ, suc, ◌+◌, ◌*◌, ◌<◌, ◌≤◌, ℤ, length, get_or}
+use Rattle.std.specs.Prelude.{List, ◌≡◌, ℕ, suc, ◌*◌, ◌<◌, ◌≤◌, ℤ, length, get_or}
 use Rattle.tables.specs.Data.{point_count}
 use Rattle.tables.specs.Figures.{Figure}
 use Rattle.tables.specs.Rules.{rank}

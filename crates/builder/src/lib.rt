@@ -12,23 +12,10 @@ ghost use Rattle.builder.specs.Stages.{Staged, Follows, Begun, Delaunay};
 use store::Tri;
 
 // How many triangles there are, and the slot of the newest.
-#[derive(Drop)]
+#[derive(Clone, Copy)]
 pub struct Progress {
     pub count: usize,
     pub newest: usize,
-}
-
-// The triangle 0, b, c stands in the first slot, alone.
-fn put_base(work: &mut [u32], b: u32, c: u32)
-    requires { (192 ≤ length work.old) × (b < 3) × (c < 3) }
-    ensures { work.new ≡ born work.old 0 (base_rec 0 b c) }
-{
-    let base = Tri {
-        v: [0, b, c],
-        adj: [0, 0, 0],
-        con: [0, 0, 0],
-    };
-    store::record(work, 0, base);
 }
 
 // The base alone, turned where it is clockwise.
@@ -37,11 +24,17 @@ fn begin(points: &[i32], work: &mut [u32])
     requires points_in_bounds { 64 * point_count points.now ≤ length work.old }
     ensures { Begun points.now work.old work.new }
 {
-    if segments::is_right(points, 0, 1, 2) {
-        put_base(work, 2, 1);
+    let corners = if segments::is_right(points, 0, 1, 2) {
+        [0, 2, 1]
     } else {
-        put_base(work, 1, 2);
-    }
+        [0, 1, 2]
+    };
+    let base = Tri {
+        v: corners,
+        adj: [0; 3],
+        con: [0; 3],
+    };
+    store::record(work, 0, base);
 }
 
 // Point p goes in: it is located, the triangles that hold it are split, and edges are flipped until step 3 flips none.
@@ -51,15 +44,11 @@ fn insert_point(points: &[i32], work: &mut [u32], p: usize, at: Progress) -> Pro
     ensures follows { Follows points.now p work.old at.count at.newest work.new result.count result.newest }
     ensures kept { Kept (point_count points.now) work.old work.new }
 {
-    let count = at.count;
-    let newest = at.newest;
-    let found = location::locate(points, work, count, p, newest);
-    let grown = splitting::split_at(points, work, count, found - 1, p);
-    let more = grown.count;
-    let many = grown.many;
-    let last = flipping::legalize_suspects(points, work, more, many, more - 1);
+    let t = location::locate(points, work, at.count, p, at.newest).unwrap();
+    let grown = splitting::split_at(points, work, at.count, t, p);
+    let last = flipping::legalize_suspects(points, work, grown.count, grown.many, grown.count - 1);
     Progress {
-        count: more,
+        count: grown.count,
         newest: last,
     }
 }
@@ -72,19 +61,12 @@ pub fn build(points: &[i32], work: &mut [u32]) -> usize
 {
     ranks::rank_points(points, work);
     begin(points, work);
-    let n = points.len() / 2;
-    let mut count = 1;
-    let mut newest = 0;
-    let mut p = 3;
-    while p < n {
-        let at = Progress {
-            count: count,
-            newest: newest,
-        };
-        let next = insert_point(points, work, p, at);
-        count = next.count;
-        newest = next.newest;
-        p += 1;
+    let mut at = Progress {
+        count: 1,
+        newest: 0,
+    };
+    for p in 3..points.len() / 2 {
+        at = insert_point(points, work, p, at);
     }
-    count
+    at.count
 }

@@ -1,81 +1,18 @@
--- The rows without a triangle are cleared: how the loops do it, and that a recovery has its room afterwards. Assumes nothing.
+-- The rows without a triangle are cleared: what is left, and that a recovery has its room afterwards. Assumes nothing.
 use mathlib.Core.List.{List}
-use mathlib.Core.Path.{◌≡◌, refl, sym, ap, ◌∙◌, subst}
-use Prim.Native.Nat.{ℕ, zero, suc, ◌+◌, ◌-◌, ◌*◌, ◌/◌, ◌%◌, ◌≤◌, ◌<◌}
-use native.Mathlib.Decide.{ℕ_discrete, dec_lt}
+use mathlib.Core.Path.{◌≡◌, refl, ◌∙◌}
+use Prim.Native.Nat.{ℕ, zero, suc, ◌+◌, ◌*◌, ◌≤◌, ◌<◌}
+use native.Mathlib.Decide.{dec_lt}
 use native.Mathlib.Omega.{arith}
 use lib.IntN.{ℤ}
-use lib.ListN.{length, get_or, set, length-set}
-use lib.Seq.{get_or-set_same, get_or-set_other}
+use lib.ListN.{length, get_or}
 use Rattle.plane.specs.Points.{Pt}
 use Rattle.plane.specs.Base.{Side}
 use Rattle.nets.specs.Tilings.{Tiling}
 use Rattle.nets.specs.Layout.{cell, net_of, rank_cell, Kept}
 use Rattle.chains.specs.Areas.{org, adj, con, chain_cell, slot_cell, chain_of, slot_of, Room}
-use Rattle.carving.specs.Clearing.{Wiped, In, WipedRows, Zeroed, Cleared, SameNet, Ranged}
+use Rattle.carving.specs.Clearing.{In, WipedRows, Zeroed, Cleared, SameNet, Ranged}
 use Rattle.carving.specs.Clearing.Zeroed.{partner, chain}
-
--- ---- numbers in a row
-
-pub wiped_none : (lo : ℕ) (w : List ℕ) → Wiped lo lo w w
-wiped_none lo w = record { len = refl; zero = λ c a b. absurd (let z : ⊥ = omega arith in z); below = λ c a. refl; above = λ c a. refl }
-
-pub wiped_more : (lo i : ℕ) (w w' : List ℕ) → lo ≤ i → i < length w → Wiped lo i w w' → Wiped lo (i + 1) w (set w' i 0)
-wiped_more lo i w w' l b o = record {
-  len = length-set w' i 0 ∙ o.len;
-  zero = zero;
-  below = λ c a. get_or-set_other w' i c 0 0 (let z : ¬ (c ≡ i) = omega arith in z) ∙ o.below c a;
-  above = λ c a. get_or-set_other w' i c 0 0 (let z : ¬ (c ≡ i) = omega arith in z) ∙ o.above c (omega arith);
-}
-  where
-    zero : (c : ℕ) → lo ≤ c → c < i + 1 → get_or (set w' i 0) c 0 ≡ 0
-    zero c a h =
-        elim (ℕ_discrete c i) [
-          | yes e ↦ ap (λ (x : ℕ). get_or (set w' i 0) x 0) e ∙ get_or-set_same w' i 0 0 (let z = o.len in omega arith)
-          | no n ↦ get_or-set_other w' i c 0 0 n ∙ o.zero c a (omega arith)
-        ]
-
--- ---- rows
-
-module _ (a lo hi : ℕ) where
-  in_none : (c : ℕ) → ¬ In a a lo hi c
-  in_none c i = let x = i.from in let y = i.to in omega arith
-
-  pub rows_none : (w : List ℕ) → WipedRows a a lo hi w w
-  rows_none w = record { len = refl; zero = λ c i. absurd (in_none c i); rest = λ c n. refl }
-
-  in_more : (s c : ℕ) → In a s lo hi c → In a (s + 1) lo hi c
-  in_more s c i = let y = i.to in record { from = i.from; to = omega arith; low = i.low; high = i.high }
-
-  in_row : (s c : ℕ) → a ≤ s → hi ≤ 16 → 16 * s + lo ≤ c → c < 16 * s + hi → In a (s + 1) lo hi c
-  in_row s c l h x y = record { from = omega arith; to = omega arith; low = omega arith; high = omega arith }
-
-  in_less : (s c : ℕ) → In a (s + 1) lo hi c → ¬ (c / 16 ≡ s) → In a s lo hi c
-  in_less s c i n = let y = i.to in record { from = i.from; to = omega arith; low = i.low; high = i.high }
-
-  pub rows_more : (s : ℕ) (w w' w'' : List ℕ) → a ≤ s → hi ≤ 16 → WipedRows a s lo hi w w' → Wiped (16 * s + lo) (16 * s + hi) w' w'' → WipedRows a (s + 1) lo hi w w''
-  rows_more s w w' w'' l h o v = record { len = v.len ∙ o.len; zero = zero; rest = rest }
-    where
-      other : (c : ℕ) → ¬ (In a (s + 1) lo hi c × (c / 16 ≡ s)) → get_or w'' c 0 ≡ get_or w' c 0
-      other c n =
-          elim (dec_lt c (16 * s + lo)) [
-            | yes k ↦ v.below c k
-            | no k ↦
-                elim (dec_lt c (16 * s + hi)) [
-                  | yes m ↦ absurd (n (in_row s c l h (let z : 16 * s + lo ≤ c = omega arith in z) m, (let z : c / 16 ≡ s = omega arith in z)))
-                  | no m ↦ v.above c (let z : 16 * s + hi ≤ c = omega arith in z)
-                ]
-          ]
-
-      zero : (c : ℕ) → In a (s + 1) lo hi c → get_or w'' c 0 ≡ 0
-      zero c i =
-          elim (ℕ_discrete (c / 16) s) [
-            | yes e ↦ let x = i.low in let y = i.high in v.zero c (let z : 16 * s + lo ≤ c = omega arith in z) (let z : c < 16 * s + hi = omega arith in z)
-            | no n ↦ other c (λ p. n p.1) ∙ o.zero c (in_less s c i n)
-          ]
-
-      rest : (c : ℕ) → ¬ In a (s + 1) lo hi c → get_or w'' c 0 ≡ get_or w c 0
-      rest c n = other c (λ p. n p.0) ∙ o.rest c (λ i. n (in_more s c i))
 
 -- ---- both
 

@@ -1,11 +1,11 @@
 -- The crossed slots come on the stack of suspects one after another. Assumes nothing.
-use mathlib.Core.List.{List, [], ◌∷◌}
+use mathlib.Core.List.{List, ◌∷◌}
 use mathlib.Core.Path.{◌≡◌, refl, sym, ap, ◌∙◌, subst}
-use Prim.Native.Nat.{ℕ, zero, suc, ◌+◌, ◌-◌, ◌*◌, ◌/◌, ◌%◌, ◌≤◌, ◌<◌}
+use Prim.Native.Nat.{ℕ, zero, suc, ◌+◌, ◌*◌, ◌≤◌, ◌<◌}
 use native.Mathlib.Numerals.{add-one}
 use native.Mathlib.Omega.{arith}
-use lib.ListN.{length, get_or, set}
-use Rattle.nets.specs.Layout.{cell, net_of, rank_cell, Kept}
+use lib.ListN.{length}
+use Rattle.nets.specs.Layout.{cell, net_of, rank_cell}
 use Rattle.nets.proofs.Memory.{net_eq}
 use Rattle.suspects.specs.Stack.{stack, Fresh, Suspects, pushed, Aside}
 use Rattle.suspects.proofs.Stack.{stack_none, pushed_stack, pushed_suspects, pushed_aside, aside_trans}

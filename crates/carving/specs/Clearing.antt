@@ -1,14 +1,7 @@
 -- The rows that no triangle has are made ready for the first recovery. Definitions only.
 use Rattle.std.specs.Prelude.{List, ◌≡◌, ℕ, ◌+◌, ◌*◌, ◌/◌, ◌%◌, ◌≤◌, ◌<◌, length, get_or}
-use Rattle.nets.specs.Layout.{net_of, Kept}
-use Rattle.chains.specs.Areas.{org, adj, Room}
-
--- the numbers from lo up to hi are zero, and the others are as they were
-pub record Wiped (lo hi : ℕ) (w w' : List ℕ) : Type 0 where
-  pub len : length w' ≡ length w
-  pub zero : (c : ℕ) → lo ≤ c → c < hi → get_or w' c 0 ≡ 0
-  pub below : (c : ℕ) → c < lo → get_or w' c 0 ≡ get_or w c 0
-  pub above : (c : ℕ) → hi ≤ c → get_or w' c 0 ≡ get_or w c 0
+use Rattle.nets.specs.Layout.{net_of}
+use Rattle.chains.specs.Areas.{org, adj}
 
 -- place c is one of the places from lo up to hi of a row from a up to b
 pub record In (a b lo hi c : ℕ) : Type 0 where

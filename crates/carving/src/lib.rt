@@ -9,29 +9,28 @@ ghost use Rattle.tables.specs.Figures.{Figure};
 ghost use Rattle.chains.specs.Areas.{adj, slot_of, mark_w, Room};
 ghost use Rattle.chains.specs.Recoveries.{RecoversW};
 ghost use Rattle.carving.specs.Closing.{Closing, CanMark};
-ghost use Rattle.carving.specs.Clearing.{Wiped, WipedRows, Cleared};
+ghost use Rattle.carving.specs.Clearing.{WipedRows, Cleared};
 ghost use Rattle.carving.specs.Suspecting.{Different, Suspected};
 
-use chains::{Filling, Reason, Recovering, Walking};
-
-fn wide(x: u32) -> usize
-    ensures { result ≡ x }
-{
-    x as usize
-}
+use chains::Reason;
 
 // ---- the recovery
 
 // Fills both sides of the open cavity, and the right root takes the place above the left one.
-fn close(points: &[i32], work: &mut [u32], n: usize, count: usize, l: usize, r: usize) -> Filling
+fn close(
+    points: &[i32],
+    work: &mut [u32],
+    n: usize,
+    count: usize,
+    l: usize,
+    r: usize,
+) -> Result<(), Reason>
     requires figure { Figure points.now × (n ≡ point_count points.now) }
     requires room { Room n count work.old × (1 ≤ l) × (1 ≤ r) × (l + r ≤ count) }
     ensures { Closing (point points.now) n count work.old l r result work.new }
 {
-    let Filling::Done = fillings::fill(points, work, n, count, 0, l + 1, 0, 8 * n) else {
-        return Filling::Stuck;
-    };
-    let Filling::Done = fillings::fill(
+    fillings::fill(points, work, n, count, 0, l + 1, 0, 8 * n)?;
+    fillings::fill(
         points,
         work,
         n,
@@ -40,12 +39,10 @@ fn close(points: &[i32], work: &mut [u32], n: usize, count: usize, l: usize, r: 
         2 * n - 1,
         l,
         8 * n + 1,
-    ) else {
-        return Filling::Stuck;
-    };
+    )?;
     let s = seams::slot(work, n, l + r - 1);
     seams::move_to(work, 8 * n, 3 * s);
-    Filling::Done
+    Ok(())
 }
 
 // Recovers the pair a b, whose segment leaves a triangle with the corner a through the half-edge x0 across from it.
@@ -57,22 +54,15 @@ pub fn recover(
     a: usize,
     b: usize,
     x0: usize,
-) -> Recovering
+) -> Result<usize, Reason>
     requires figure { Figure points.now × (n ≡ point_count points.now) }
     requires room { Room n count work.old × (x0 < 3 * count) × (a < n) × (b < n) }
     ensures { RecoversW (point points.now) n count a b work.old x0 result work.new }
 {
     corridors::begin(work, n, count, a, x0);
-    let k = corridors::collect(points, work, n, count, a, b, x0);
-    match k {
-        Walking::Arrived(l, r) => {
-            let Filling::Done = close(points, work, n, count, l, r) else {
-                return Recovering::Stuck(Reason::Apex);
-            };
-            Recovering::Done(l + r)
-        }
-        Walking::Stuck(e) => Recovering::Stuck(e),
-    }
+    let (l, r) = corridors::collect(points, work, n, count, a, b, x0)?;
+    close(points, work, n, count, l, r)?;
+    Ok(l + r)
 }
 
 // The edge of half-edge h is marked, on both sides where it has two.
@@ -80,36 +70,22 @@ pub fn mark(work: &mut [u32], h: usize)
     requires { CanMark work.old h }
     ensures { work.new ≡ mark_w work.old h (adj work.old h) }
 {
-    let m = wide(links::partner(work, h));
+    let partner = (links::partner(work, h) as usize).checked_sub(1);
     work[16 * (h / 3) + 6 + h % 3] = 1;
-    if m != 0 {
-        let g = m - 1;
+    if let Some(g) = partner {
         work[16 * (g / 3) + 6 + g % 3] = 1;
     }
 }
 
 // ---- the room
 
-fn wipe(work: &mut [u32], lo: usize, hi: usize)
-    requires { (lo ≤ hi) × (hi ≤ length work.old) }
-    ensures { Wiped lo hi work.old work.new }
-{
-    let mut i = lo;
-    while i < hi {
-        work[i] = 0;
-        i += 1;
-    }
-}
-
 // The places from lo up to hi of the rows from a up to b.
 fn wipe_rows(work: &mut [u32], a: usize, b: usize, lo: usize, hi: usize)
     requires { (a ≤ b) × (b ≤ 16384) × (16 * b ≤ length work.old) × (lo ≤ hi) × (hi ≤ 16) }
     ensures { WipedRows a b lo hi work.old work.new }
 {
-    let mut s = a;
-    while s < b {
-        wipe(work, 16 * s + lo, 16 * s + hi);
-        s += 1;
+    for s in a..b {
+        work[16 * s + lo..16 * s + hi].fill(0);
     }
 }
 
@@ -129,10 +105,8 @@ pub fn suspect_all(work: &mut [u32], n: usize, count: usize, k: usize)
     requires { Room n count work.old × (k ≤ count) × Different k (slot_of n work.old) }
     ensures { Suspected n count k work.old work.new }
 {
-    let mut m = 0;
-    while m < k {
+    for m in 0..k {
         let s = seams::slot(work, n, m);
         suspects::push(work, m, s);
-        m += 1;
     }
 }

@@ -13,5 +13,5 @@ fn main(rt: HostRuntime) -> io::Result<()> {
     proved::all(&rt)?;
     refusals::all(&rt)?;
     limits::all(&rt)?;
-    pairs::all(&rt)
+    runs::small(&rt, &pairs::CASES)
 }

@@ -1,10 +1,10 @@
 -- The filling of a part of the chain in the working area, as a relation of the lists before and after. Definitions only.
-use Rattle.std.specs.Prelude.{Bool, true, false, List, ◌≡◌, ℕ, suc, ◌+◌, ◌-◌, ◌*◌, ◌≤◌, ◌<◌, ℤ}
+use Rattle.std.specs.Prelude.{true, false, List, Result, Ok, Err, ⊤, ◌≡◌, ℕ, suc, ◌+◌, ◌-◌, ◌*◌, ◌<◌, ℤ}
 use Rattle.plane.specs.Points.{Pt}
 use Rattle.chains.specs.Areas.{chain_of, slot_of, move_w, cut_w, join_w, Room, Still}
 use Rattle.chains.specs.Scans.{left_of, apex}
-use Rattle.chains.specs.declared.Filling.{Filling}
-use Rattle.chains.specs.declared.Filling.TheVariants.{Done, Stuck}
+use Rattle.chains.specs.declared.Reason.{Reason}
+use Rattle.chains.specs.declared.Reason.TheVariants.{Apex}
 
 -- The part i .. j of the chain c is filled under the half-edge top with the crossed slots p .. q. The gap between the places x and x + 1 is
 -- half-edge G + x. A part without a corner between its ends is a gap, which moves to the top. Else a triangle over the base is cut, both its
@@ -28,6 +28,6 @@ pub record Filled (P : ℕ → Pt ℤ) (n t : ℕ) (w : List ℕ) (i j p top : �
   pub room : Room n t w'
 
 -- what the filling comes to; where it sticks, the lists are out of use
-abbrev pub Came : (ℕ → Pt ℤ) → ℕ → ℕ → List ℕ → ℕ → ℕ → ℕ → ℕ → List ℕ → Filling → Type 0
-Came P n t w i j p top w' Done = Filled P n t w i j p top w'
-Came P n t w i j p top w' Stuck = NoApex P (chain_of n w) i j × Still n w w'
+abbrev pub Came : (ℕ → Pt ℤ) → ℕ → ℕ → List ℕ → ℕ → ℕ → ℕ → ℕ → List ℕ → Result ⊤ Reason → Type 0
+Came P n t w i j p top w' (Ok done) = Filled P n t w i j p top w'
+Came P n t w i j p top w' (Err e) = (e ≡ Apex) × NoApex P (chain_of n w) i j × Still n w w'

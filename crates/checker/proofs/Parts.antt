@@ -1,18 +1,18 @@
 -- The parts of the checker's work, put together. Assumes nothing.
-use mathlib.Core.Path.{◌≡◌, refl, sym, ap, ap₂, ◌∙◌, subst}
-use mathlib.Core.Bool.{Bool, true, false, cond, not, ◌||◌, true≢false, false≢true}
+use mathlib.Core.Path.{◌≡◌, refl, sym, ap, ◌∙◌, subst}
+use mathlib.Core.Bool.{Bool, true, false, not}
 use mathlib.Core.List.{List}
-use Prim.Native.Nat.{ℕ, zero, suc, ◌+◌, ◌-◌, ◌*◌, ◌/◌, ◌%◌, ◌≤◌, ◌<◌}
+use Prim.Native.Nat.{ℕ, zero, suc, ◌+◌, ◌*◌, ◌/◌, ◌%◌, ◌≤◌, ◌<◌}
 use native.Mathlib.Omega.{arith}
-use borrow.Author.Tests.{lt-ltb, le-ltb, ltb-true, ltb-false, eqb-true}
-use lib.Dec.{T, eqb, ltb, leb}
+use borrow.Author.Tests.{eqb-true}
+use lib.Dec.{eqb}
 use lib.IntN.{ℤ}
 use lib.ListN.{length, get_or}
 use Rattle.algebra.proofs.Sum.{thirds}
-use Rattle.algebra.proofs.Tests.{by_test}
-use Rattle.tables.specs.Answers.{Paper, yes, refuses, breaks, row, rule, of_refusal, of_verdict}
+use Rattle.tables.specs.Answers.{Paper, yes, breaks, rule, of_refusal, of_rule}
+use Rattle.tables.specs.declared.Rule.{Rule}
+use Rattle.tables.specs.declared.Rule.TheVariants.{TriplesProper, EdgesOnce, EdgesMet, PointsMet, AreasFill, PairsMet, EdgesStay, HouseOrder}
 use Rattle.tables.specs.Data.{point_count, pair_count, end_a, end_b}
-use Rattle.tables.specs.Refusals.{rows, bad_counts, short_work, rows4to10}
 use Rattle.tables.specs.Rules.{triples, corner, rule1, rule2, rule3, rule4, rule5, rule6, rule7, rule8}
 use Rattle.tables.specs.Verdicts.{and_then, rules, verdict, refusals, cleared, left_work}
 use Rattle.tables.specs.declared.Refusal.{Refusal}
@@ -23,7 +23,7 @@ use Rattle.rooms.specs.Rest.{Rest}
 use Rattle.edges.specs.Index.{Corners, Indexed, last_of}
 use Rattle.rooms.proofs.Cleared.{cleared_length, cleared_zero, cleared_over, rest_then, rest_cleared}
 use Rattle.list_rules.proofs.Once.{not_false}
-use Rattle.checker.specs.Parts.{broken, rules12, rules345, rules678}
+use Rattle.checker.specs.Parts.{rules12, rules345, rules678}
 
 -- ---- what rule 1 tells of the list
 module _ (ps : List ℤ) (xs : List ℕ) (whole : length xs % 3 ≡ 0) (r : rule1 ps xs ≡ true) where
@@ -65,20 +65,26 @@ in_parts ps qs xs =
     sym (rule_then 1 (rule1 ps xs) (rule 2 (rule2 xs) yes) (and_then (rules345 ps xs) last)
     ∙ ap (rule 1 (rule1 ps xs)) (rule_then 2 (rule2 xs) yes (and_then (rules345 ps xs) last) ∙ ap (rule 2 (rule2 xs)) third))
 
-pub broken_is : (a : ℕ) → (a ≡ 0 → ⊥) → broken a ≡ breaks a
-broken_is zero f = absurd (f refl)
-broken_is (suc a) f = refl
-
 -- a broken part is the answer, and one that is kept leaves it to the next
-pub stops : (a : ℕ) (p after : Paper) → (a ≡ 0 → ⊥) → broken a ≡ p → breaks a ≡ and_then p after
-stops a p after f e = sym (ap (λ (q : Paper). and_then q after) (sym e ∙ broken_is a f))
+rule_stays : (k : Rule) (after : Paper) → and_then (of_rule k) after ≡ of_rule k
+rule_stays TriplesProper after = refl
+rule_stays EdgesOnce after = refl
+rule_stays EdgesMet after = refl
+rule_stays PointsMet after = refl
+rule_stays AreasFill after = refl
+rule_stays PairsMet after = refl
+rule_stays EdgesStay after = refl
+rule_stays HouseOrder after = refl
 
-pub passes : (a : ℕ) (p : Paper) {after : Paper} → a ≡ 0 → broken a ≡ p → and_then p after ≡ after
-passes a p {after} z e = ap (λ (q : Paper). and_then q after) (sym e ∙ ap broken z)
+pub stops : (k : Rule) (p after : Paper) → of_rule k ≡ p → of_rule k ≡ and_then p after
+stops k p after e = sym (rule_stays k after) ∙ ap (λ (q : Paper). and_then q after) e
+
+pub passes : (p after : Paper) → yes ≡ p → and_then p after ≡ after
+passes p after e = ap (λ (q : Paper). and_then q after) (sym e)
 
 -- rules 1 and 2 hold where their part is kept
-pub both_hold : (ps : List ℤ) (xs : List ℕ) (a : ℕ) → a ≡ 0 → broken a ≡ rules12 ps xs → (rule1 ps xs ≡ true) × (rule2 xs ≡ true)
-both_hold ps xs a z e = go (rule1 ps xs) (rule2 xs) (sym (ap broken z) ∙ e)
+pub both_hold : (ps : List ℤ) (xs : List ℕ) → yes ≡ rules12 ps xs → (rule1 ps xs ≡ true) × (rule2 xs ≡ true)
+both_hold ps xs = go (rule1 ps xs) (rule2 xs)
   where
     go : (b c : Bool) → yes ≡ rule 1 b (rule 2 c yes) → (b ≡ true) × (c ≡ true)
     go true true q = (refl, refl)

@@ -1,15 +1,11 @@
 -- The checker's work in parts. Definitions only.
-use Rattle.std.specs.Prelude.{◌≡◌, Bool, true, false, List, ℕ, zero, suc, ◌*◌, ◌%◌, ◌≤◌, ◌<◌, ℤ, length, get_or}
-use Rattle.tables.specs.Answers.{Paper, yes, breaks, rule}
+use Rattle.std.specs.Prelude.{◌≡◌, true, List, ℕ, ◌*◌, ◌%◌, ◌≤◌, ◌<◌, ℤ, length, get_or, Result, Ok}
+use Rattle.tables.specs.Answers.{Paper, yes, rule, of_rules}
+use Rattle.tables.specs.declared.Rule.{Rule}
 use Rattle.tables.specs.Data.{point_count}
 use Rattle.tables.specs.Rules.{rule1, rule2, rule3, rule4, rule5, rule6, rule7, rule8}
 use Rattle.segments.specs.Near.{Near}
 use Rattle.list_rules.specs.Listed.{Listed, Room, Blank, Ends}
-
--- the number of a broken rule, or 0
-abbrev pub broken : ℕ → Paper
-broken zero = yes
-broken (suc k) = breaks (suc k)
 
 -- the eight rules in three parts
 abbrev pub rules12 : List ℤ → List ℕ → Paper
@@ -34,10 +30,10 @@ abbrev pub Zero : List ℤ → List ℕ → Type 0
 Zero ps w = (p : ℕ) → p < 64 * point_count ps → get_or w p 0 ≡ 0
 
 -- rules 1 and 2, and where they hold, the index and the list's length
-pub record Indexing (ps : List ℤ) (xs w w' : List ℕ) (r : ℕ) : Type 0 where
-  pub answer : broken r ≡ rules12 ps xs
-  pub listed : r ≡ 0 → Listed (point_count ps) xs w'
-  pub few : r ≡ 0 → length xs ≤ 6 * point_count ps
+pub record Indexing (ps : List ℤ) (xs w w' : List ℕ) (r : Result (Unit {0}) Rule) : Type 0 where
+  pub answer : of_rules r ≡ rules12 ps xs
+  pub listed : r ≡ Ok tt → Listed (point_count ps) xs w'
+  pub few : r ≡ Ok tt → length xs ≤ 6 * point_count ps
   pub size : length w' ≡ length w
   pub rest : (p : ℕ) → 7 * point_count ps ≤ p → get_or w' p 0 ≡ get_or w p 0
 

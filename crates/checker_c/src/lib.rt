@@ -1,4 +1,4 @@
-// The checker for programs in other languages, by numbers alone. The benchmark links it.
+// The checker for programs in other languages, by numbers alone, as the C interface asks. The benchmark links it.
 #![tactic(auto)]
 
 ghost use Rattle.std.specs.Prelude.{◌≡◌, false, length};
@@ -7,7 +7,7 @@ ghost use Rattle.tables.specs.Refusals.{rows, short_work};
 ghost use Rattle.tables.specs.Verdicts.{verdict, left_work};
 ghost use Rattle.checker_c.specs.Number.{number_of};
 
-use tables::{Checked, Verdict};
+use tables::Objection;
 
 // 0 for yes, a refusal's number, or 100 and the number of the broken rule; the place is not told.
 #[unsafe(no_mangle)]
@@ -20,11 +20,10 @@ pub extern "C" fn checker_check(
     ensures answer { result ≡ number_of (verdict points.now pairs.now list.now (length work.old)) }
     ensures work { work.new ≡ left_work (verdict points.now pairs.now list.now (length work.old)) (point_count points.now) work.old }
 {
-    let answer = checker::check(points, pairs, list, work);
-    match answer {
-        Verdict::Yes => 0,
-        Verdict::Breaks(k) => 100 + k,
-        Verdict::Refused(r) => row_numbers::number(r),
+    match checker::check(points, pairs, list, work) {
+        Ok(()) => 0,
+        Err(Objection::Breaks(rule)) => 100 + rule as u32,
+        Err(Objection::Refused(r)) => row_numbers::number(r),
     }
 }
 
@@ -35,9 +34,8 @@ pub extern "C" fn checker_rows(points: &[i32], pairs: &[u32], work: &mut [u32]) 
     ensures work { work.new ≡ left_work (rows false (short_work (point_count points.now) (length work.old)) points.now pairs.now) (point_count points.now) work.old }
 {
     let short = work.len() / 64 < points.len() / 2;
-    let answer = checks::rows(points, pairs, false, short, work);
-    match answer {
-        Checked::Passed => 0,
-        Checked::Refused(r) => row_numbers::number(r),
+    match checks::rows(points, pairs, false, short, work) {
+        Ok(_) => 0,
+        Err(r) => row_numbers::number(r),
     }
 }

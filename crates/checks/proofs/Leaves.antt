@@ -9,8 +9,7 @@ use Rattle.tables.specs.Answers.{Paper, yes, refuses, row, row_at, lowest}
 use Rattle.tables.specs.Data.{point_count, pair_count}
 use Rattle.tables.specs.Refusals.{far, no_area, outside, again, bad_pair, blocked, crossing, rows8to10, rows4to10}
 use Rattle.tables.specs.Verdicts.{cleared, left_work}
-use Rattle.tables.specs.declared.Lowest.{Lowest}
-use Rattle.tables.specs.declared.Lowest.TheVariants.{At, Nowhere}
+use Rattle.std.specs.Prelude.{Option, Some, None}
 
 -- rows 1 to 3: the answer, and the working area unchanged
 pub stays : {p : Paper} (k n : ℕ) (w : List ℕ) → leb k 3 ≡ true → p ≡ refuses k 0 → (refuses k 0 ≡ p) × (w ≡ left_work p n w)
@@ -30,6 +29,6 @@ rows_leave ps qs n w =
     plain k true after e h = rw e
     plain k false after e h = h
 
-    at : (k : ℕ) (l : Lowest) (after : Paper) → leb k 3 ≡ false → left_work after n w ≡ cleared (64 * n) w → left_work (row_at k l after) n w ≡ cleared (64 * n) w
-    at k (At i) after e h = rw e
-    at k Nowhere after e h = h
+    at : (k : ℕ) (l : Option ℕ) (after : Paper) → leb k 3 ≡ false → left_work after n w ≡ cleared (64 * n) w → left_work (row_at k l after) n w ≡ cleared (64 * n) w
+    at k (Some i) after e h = rw e
+    at k None after e h = h

@@ -11,7 +11,7 @@ ghost use Rattle.tables.specs.Refusals.{rows, rows4to10};
 ghost use Rattle.tables.specs.Verdicts.{left_work};
 ghost use Rattle.rooms.specs.Rest.{Rest};
 
-use tables::{Checked, Lowest, Refusal};
+use tables::Refusal;
 
 // Row 2's limits.
 const MOST_POINTS: usize = 4096;
@@ -19,59 +19,52 @@ const MOST_POINTS: usize = 4096;
 const MOST_PAIRS: usize = 12288;
 
 // Rows 4 to 10, which may write the first 64n numbers of the working area.
-fn rows_4_to_10(points: &[i32], pairs: &[u32], work: &mut [u32]) -> Checked
+fn rows_4_to_10(points: &[i32], pairs: &[u32], work: &mut [u32]) -> Result<(), Refusal>
     requires points_len { (length points.now % 2 ≡ 0) × (length pairs.now % 2 ≡ 0) }
     requires bound { (3 ≤ point_count points.now) × (point_count points.now ≤ 4096) × (64 * point_count points.now ≤ length work.old) }
     ensures result_value { of_checked result ≡ rows4to10 points.now pairs.now }
     ensures rest { Rest (64 * point_count points.now) work.old work.new }
 {
-    let far = point_checks::far_point(points);
-    if let Lowest::At(i) = far {
-        return Checked::Refused(Refusal::FarPoint(i));
+    if let Some(i) = point_checks::far_point(points) {
+        return Err(Refusal::FarPoint(i));
     }
     if base_checks::no_area(points) {
-        return Checked::Refused(Refusal::NoArea);
+        return Err(Refusal::NoArea);
     }
-    let outside = base_checks::outside_point(points);
-    if let Lowest::At(i) = outside {
-        return Checked::Refused(Refusal::OutsidePoint(i));
+    if let Some(i) = base_checks::outside_point(points) {
+        return Err(Refusal::OutsidePoint(i));
     }
-    let equal = point_checks::equal_point(points);
-    if let Lowest::At(i) = equal {
-        return Checked::Refused(Refusal::EqualPoint(i));
+    if let Some(i) = point_checks::equal_point(points) {
+        return Err(Refusal::EqualPoint(i));
     }
     pair_rows::rows_8_to_10(points, pairs, work)
 }
 
 // Rows 1 to 10. `odd` and `short` are what else rows 1 and 3 ask of the caller's other lists; where `short` is false, the working area has
 // its 64n numbers. It is unchanged on refusals 1 to 3, else its first 64n numbers are zero and the rest is unchanged.
-pub fn rows(points: &[i32], pairs: &[u32], odd: bool, short: bool, work: &mut [u32]) -> Checked
+pub fn rows(
+    points: &[i32],
+    pairs: &[u32],
+    odd: bool,
+    short: bool,
+    work: &mut [u32],
+) -> Result<(), Refusal>
     requires { short ≡ false → 64 * point_count points.now ≤ length work.old }
     ensures answer { of_checked result ≡ rows odd short points.now pairs.now }
     ensures work { work.new ≡ left_work (rows odd short points.now pairs.now) (point_count points.now) work.old }
 {
-    if points.len() % 2 != 0 {
-        return Checked::Refused(Refusal::OddLength);
+    let n = points.len() / 2;
+    let m = pairs.len() / 2;
+    if points.len() % 2 != 0 || pairs.len() % 2 != 0 || odd {
+        return Err(Refusal::OddLength);
     }
-    if pairs.len() % 2 != 0 {
-        return Checked::Refused(Refusal::OddLength);
-    }
-    if odd {
-        return Checked::Refused(Refusal::OddLength);
-    }
-    if points.len() / 2 < 3 {
-        return Checked::Refused(Refusal::Counts);
-    }
-    if MOST_POINTS < points.len() / 2 {
-        return Checked::Refused(Refusal::Counts);
-    }
-    if MOST_PAIRS < pairs.len() / 2 {
-        return Checked::Refused(Refusal::Counts);
+    if n < 3 || MOST_POINTS < n || MOST_PAIRS < m {
+        return Err(Refusal::Counts);
     }
     if short {
-        return Checked::Refused(Refusal::Room);
+        return Err(Refusal::Room);
     }
     let answer = rows_4_to_10(points, pairs, work);
-    rooms::clear(work, 64 * (points.len() / 2));
+    rooms::clear(work, 64 * n);
     answer
 }

@@ -1,28 +1,29 @@
 -- The steps of the walk: the area after each of them, and the walk as it goes on. Assumes nothing.
 use mathlib.Core.List.{List}
-use mathlib.Core.Path.{◌≡◌, refl, sym, ap, ◌∙◌, subst}
+use mathlib.Core.Path.{◌≡◌, sym, subst}
 use Prim.Native.Nat.{ℕ, ◌+◌, ◌-◌, ◌*◌, ◌/◌, ◌≤◌, ◌<◌}
 use native.Mathlib.Omega.{arith}
+use Rattle.std.specs.Prelude.{Result, Ok, Err}
 use lib.IntN.{ℤ}
-use lib.ListN.{length, get_or, set, length-set}
+use lib.ListN.{length, set, length-set}
 use Rattle.plane.specs.Halfedges.{nxt}
 use Rattle.plane.specs.Points.{Pt}
-use Rattle.nets.specs.Layout.{cell, Kept}
+use Rattle.nets.specs.Layout.{Kept}
 use Rattle.nets.specs.Nets.{prv}
 use Rattle.nets.proofs.Keeps.{kept_same, kept_then}
 use Rattle.nets.proofs.Slot.{nxt_in}
-use Rattle.chains.specs.Areas.{org, adj, con, chain_cell, slot_cell, move_w, Sound, Room}
+use Rattle.chains.specs.Areas.{org, chain_cell, slot_cell, move_w, Sound, Room}
 use Rattle.chains.specs.Recoveries.{begin_w}
-use Rattle.chains.specs.Walks.{look_at, enter_w, left_w, right_w, arrive_w, Walks}
-use Rattle.chains.specs.Walks.Walks.{far, stop, last, left, right}
-use Rattle.chains.specs.declared.Beyond.TheVariants.{Left, Right, Last, Stuck}
-use Rattle.chains.specs.declared.Walking.{Walking}
+use Rattle.chains.specs.Walks.{look_at, enter_w, left_w, right_w, Walks}
+use Rattle.chains.specs.Walks.Walks.{left, right}
+use Rattle.chains.specs.declared.Beyond.TheVariants.{Left, Right}
+use Rattle.chains.specs.declared.Reason.{Reason}
 use Rattle.chains.proofs.Laws.{cell_off, chain_mod, slot_mod}
 use Rattle.chains.proofs.Rooms.{set_quiet, move_sound}
 use Rattle.chains.proofs.Entering.{enter_length, left_room, right_room, left_kept, right_kept}
 use Rattle.seams.specs.Fits.{CanMove}
-use Rattle.corridors.specs.Collected.{Area}
-use Rattle.corridors.proofs.Looks.{prv_in, left_low, right_low, last_low}
+use Rattle.corridors.specs.Collected.{Area, Collected}
+use Rattle.corridors.proofs.Looks.{prv_in, left_low, right_low}
 
 -- ---- a single step asks for no more than room and partners in range
 
@@ -75,7 +76,7 @@ pub record Live (P : ℕ → Pt ℤ) (n t a b : ℕ) (w₀ : List ℕ) (x0 : ℕ
   pub some_r : 1 ≤ r
   pub few : l + r ≤ t + 1
   pub low : x < 3 * t
-  pub go : (out : Walking) (w' : List ℕ) → Walks P n t a b w l r x out w' → Walks P n t a b w₀ 1 1 x0 out w'
+  pub go : (out : Result (ℕ × ℕ) Reason) (w' : List ℕ) → Walks P n t a b w l r x out w' → Walks P n t a b w₀ 1 1 x0 out w'
 
 pub live_start : (P : ℕ → Pt ℤ) (n t a b : ℕ) (w : List ℕ) (x : ℕ) → Room n t w → x < 3 * t → Live P n t a b w x w 1 1 x
 live_start P n t a b w x r h = let z = r.real in record { room = r; kept = kept_same n w; some_l = omega arith; some_r = omega arith; few = omega arith; low = h; go = λ out w' g. g }
@@ -87,7 +88,7 @@ module _ {P : ℕ → Pt ℤ} {n t a b : ℕ} {w₀ : List ℕ} {x0 : ℕ} {w : 
   pub some : 0 < l + r
   some = let z = o.some_l in omega arith
 
-  pub live_left : {w1 : List ℕ} {y c x1 : ℕ} → look_at P t a b w x ≡ Left y c → w1 ≡ left_w n w l r y c → x1 ≡ nxt y → Live P n t a b w₀ x0 w1 (l + 1) r x1
+  pub live_left : {w1 : List ℕ} {y c x1 : ℕ} → look_at P t a b w x ≡ Ok (Left y c) → w1 ≡ left_w n w l r y c → x1 ≡ nxt y → Live P n t a b w₀ x0 w1 (l + 1) r x1
   live_left {w1} {y} {c} {x1} e z q =
       let h = left_low n t P a b w x o.room y c e in
       let sr = o.some_r in
@@ -101,7 +102,7 @@ module _ {P : ℕ → Pt ℤ} {n t a b : ℕ} {w₀ : List ℕ} {x0 : ℕ} {w : 
         go = λ out w' g. o.go out w' (left more e (subst (λ (u : ℕ). Walks P n t a b (left_w n w l r y c) (l + 1) r u out w') q (subst (λ (v : List ℕ). Walks P n t a b v (l + 1) r x1 out w') z g)));
       }
 
-  pub live_right : {w1 : List ℕ} {y c x1 : ℕ} → look_at P t a b w x ≡ Right y c → w1 ≡ right_w n w l r y c → x1 ≡ prv y → Live P n t a b w₀ x0 w1 l (r + 1) x1
+  pub live_right : {w1 : List ℕ} {y c x1 : ℕ} → look_at P t a b w x ≡ Ok (Right y c) → w1 ≡ right_w n w l r y c → x1 ≡ prv y → Live P n t a b w₀ x0 w1 l (r + 1) x1
   live_right {w1} {y} {c} {x1} e z q =
       let h = right_low n t P a b w x o.room y c e in
       let sl = o.some_l in
@@ -114,3 +115,9 @@ module _ {P : ℕ → Pt ℤ} {n t a b : ℕ} {w₀ : List ℕ} {x0 : ℕ} {w : 
         low = subst (λ (u : ℕ). u < 3 * t) (sym q) (prv_in y t h.0);
         go = λ out w' g. o.go out w' (right more e (subst (λ (u : ℕ). Walks P n t a b (right_w n w l r y c) l (r + 1) u out w') q (subst (λ (v : List ℕ). Walks P n t a b v l (r + 1) x1 out w') z g)));
       }
+
+-- the walk sticks where it stands
+pub stopped : {P : ℕ → Pt ℤ} {n t a b : ℕ} {w₀ : List ℕ} {x0 : ℕ} {w : List ℕ} {l r x : ℕ} → Live P n t a b w₀ x0 w l r x → {e : Reason} → Walks P n t a b w l r x (Err e) w →
+    (out : Result (ℕ × ℕ) Reason) → out ≡ Err e → Collected P n t a b w₀ x0 out w
+stopped {P} {n} {t} {a} {b} {w₀} {x0} {w} o {e} g out q =
+    subst (λ (u : Result (ℕ × ℕ) Reason). Collected P n t a b w₀ x0 u w) (sym q) (record { walks = o.go (Err e) w g; bounded = tt; room = o.room; kept = o.kept })

@@ -15,28 +15,16 @@ ghost use Rattle.chains.specs.Recoveries.{begin_w};
 ghost use Rattle.chains.specs.Walks.{met, look_at, enter_w, left_w, right_w, arrive_w};
 ghost use Rattle.corridors.specs.Collected.{Area, Collected};
 
-use chains::{Beyond, Reason, Walking};
-
-fn wide(x: u32) -> usize
-    ensures { result ≡ x }
-{
-    x as usize
-}
-
-// The half-edge before h in its triangle.
-fn previous(h: usize) -> usize
-    requires { h < 24576 }
-    ensures { result ≡ prv h }
-{
-    if h % 3 == 0 { h + 2 } else { h - 1 }
-}
+use chains::{Beyond, Reason};
+use signs::Sign;
 
 // The corner that half-edge h starts from.
-fn start(work: &[u32], h: usize) -> u32
+#[tactic(auto, unfolding(nets::specs::Layout::cell))]
+fn start(work: &[u32], h: usize) -> usize
     requires { (h < 24576) × (16 * (h / 3) + 16 ≤ length work.now) }
     ensures { result ≡ org work.now h }
 {
-    work[16 * (h / 3) + h % 3]
+    work[16 * (h / 3) + h % 3] as usize
 }
 
 // The corner c stands at place x of the chain.
@@ -50,41 +38,46 @@ fn stand(work: &mut [u32], n: usize, x: usize, c: usize)
 // ---- what lies behind an edge
 
 // c is the far corner of the triangle that half-edge y enters.
-fn meet(points: &[i32], a: usize, b: usize, y: usize, c: u32) -> Beyond
+fn meet(points: &[i32], a: usize, b: usize, y: usize, c: usize) -> Result<Beyond, Reason>
     requires figure { Figure points.now }
     requires a_bound { (a < point_count points.now) × (b < point_count points.now) × (c < point_count points.now) }
     ensures { result ≡ met (point points.now) a b y c }
 {
-    let k = wide(c);
-    if k == b {
-        return Beyond::Last(y);
+    if c == b {
+        return Ok(Beyond::Last(y));
     }
-    if segments::is_left(points, a, b, k) {
-        return Beyond::Left(y, c);
+    let side = segments::orient_at(points, a, b, c);
+    match side {
+        Sign::Pos => Ok(Beyond::Left(y, c)),
+        Sign::Neg => Ok(Beyond::Right(y, c)),
+        Sign::Zero => Err(Reason::OnLine),
     }
-    if segments::is_right(points, a, b, k) {
-        return Beyond::Right(y, c);
-    }
-    Beyond::Stuck(Reason::OnLine)
 }
 
 // Behind the half-edge x of count triangles. A partner beyond them is a gap, so its triangle was crossed before.
-fn look(points: &[i32], work: &[u32], count: usize, a: usize, b: usize, x: usize) -> Beyond
+fn look(
+    points: &[i32],
+    work: &[u32],
+    count: usize,
+    a: usize,
+    b: usize,
+    x: usize,
+) -> Result<Beyond, Reason>
     requires figure { Figure points.now × Room (point_count points.now) count work.now }
     requires a_bound { (a < point_count points.now) × (b < point_count points.now) × (x < 3 * count) }
     ensures { result ≡ look_at (point points.now) count a b work.now x }
 {
-    let m = wide(links::partner(work, x));
+    let m = links::partner(work, x) as usize;
     if m == 0 {
-        return Beyond::Stuck(Reason::NoNeighbour);
+        return Err(Reason::NoNeighbour);
     }
     if work[16 * (x / 3) + 6 + x % 3] != 0 {
-        return Beyond::Stuck(Reason::Marked);
+        return Err(Reason::Marked);
     }
     if 3 * count < m {
-        return Beyond::Stuck(Reason::Twice);
+        return Err(Reason::Twice);
     }
-    let g = previous(m - 1);
+    let g = links::previous(m - 1);
     let c = start(work, g);
     meet(points, a, b, m - 1, c)
 }
@@ -92,6 +85,7 @@ fn look(points: &[i32], work: &[u32], count: usize, a: usize, b: usize, x: usize
 // ---- steps
 
 // The k-th crossed slot is that of y. Its half-edge o is parked as the gap at place g, and the corner c stands at place e of the chain.
+#[tactic(auto, unfolding(chains::specs::Walks::enter_w))]
 fn enter(work: &mut [u32], n: usize, k: usize, y: usize, o: usize, g: usize, e: usize, c: usize)
     requires { Area n work.old × (k < 2 * n) × (y < 6 * n) × (o < 6 * n) × (g < 2 * n) × (e < 2 * n) × (c < n) }
     ensures { work.new ≡ enter_w n work.old k y o g e c }
@@ -106,7 +100,7 @@ fn turn_left(work: &mut [u32], n: usize, l: usize, r: usize, y: usize, c: usize)
     requires { Area n work.old × (0 < l + r) × (l + r + 3 < 2 * n) × (y < 6 * n) × (c < n) }
     ensures { (result ≡ nxt y) × (work.new ≡ left_w n work.old l r y c) }
 {
-    let o = previous(y);
+    let o = links::previous(y);
     enter(work, n, l + r - 1, y, o, l, l + 1, c);
     links::next(y)
 }
@@ -119,7 +113,7 @@ fn turn_right(work: &mut [u32], n: usize, l: usize, r: usize, y: usize, c: usize
     let o = links::next(y);
     let g = 2 * n - 2 - r;
     enter(work, n, l + r - 1, y, o, g, g, c);
-    previous(y)
+    links::previous(y)
 }
 
 // b is met behind y: both edges beside it are parked.
@@ -137,9 +131,9 @@ pub fn begin(work: &mut [u32], n: usize, count: usize, a: usize, x: usize)
     ensures { (work.new ≡ begin_w n work.old a x) × Room n count work.new × Kept n work.old work.new }
 {
     let g = links::next(x);
-    let f = previous(x);
-    let v = wide(start(work, g));
-    let u = wide(start(work, x));
+    let f = links::previous(x);
+    let v = start(work, g);
+    let u = start(work, x);
     enter(work, n, 0, x, g, 0, 1, v);
     enter(work, n, 0, x, f, 2 * n - 2, 2 * n - 2, u);
     stand(work, n, 0, a);
@@ -157,7 +151,7 @@ pub fn collect(
     a: usize,
     b: usize,
     x0: usize,
-) -> Walking
+) -> Result<(usize, usize), Reason>
     requires figure { Figure points.now × (n ≡ point_count points.now) }
     requires room { Room n count work.old × (x0 < 3 * count) × (a < n) × (b < n) }
     ensures { Collected (point points.now) n count a b work.old x0 result work.new }
@@ -165,25 +159,23 @@ pub fn collect(
     let mut l = 1;
     let mut r = 1;
     let mut x = x0;
+    // This is a `while`, as each turn raises one of two counts.
     while l + r <= count {
-        let v = look(points, work, count, a, b, x);
-        match v {
+        let beyond = look(points, work, count, a, b, x)?;
+        match beyond {
             Beyond::Left(y, c) => {
-                x = turn_left(work, n, l, r, y, wide(c));
+                x = turn_left(work, n, l, r, y, c);
                 l += 1;
             }
             Beyond::Right(y, c) => {
-                x = turn_right(work, n, l, r, y, wide(c));
+                x = turn_right(work, n, l, r, y, c);
                 r += 1;
             }
             Beyond::Last(y) => {
                 arrive(work, n, l, r, y, b);
-                return Walking::Arrived(l, r);
-            }
-            Beyond::Stuck(e) => {
-                return Walking::Stuck(e);
+                return Ok((l, r));
             }
         }
     }
-    Walking::Stuck(Reason::Twice)
+    Err(Reason::Twice)
 }

@@ -3,3 +3,4 @@ pub mod Apart
 pub mod Order
 mod Inside
 mod Ends
+mod Passed

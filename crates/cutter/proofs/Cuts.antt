@@ -1,13 +1,13 @@
 -- What the parts of the cutter ask for and leave, put together. Assumes nothing.
 use borrow.Author.Tests.{ltb-false}
-use mathlib.Core.Bool.{Bool, false, ◌||◌}
+use mathlib.Core.Bool.{Bool, false}
 use mathlib.Core.List.{List}
 use mathlib.Core.Path.{◌≡◌, refl, sym, ap, ◌∙◌, subst}
-use Prim.Native.Nat.{ℕ, zero, suc, ◌+◌, ◌-◌, ◌*◌, ◌/◌, ◌<◌, ◌≤◌}
+use Prim.Native.Nat.{ℕ, ◌+◌, ◌-◌, ◌*◌, ◌<◌, ◌≤◌}
 use native.Mathlib.Omega.{arith}
 use lib.Dec.{ltb}
 use lib.IntN.{ℤ}
-use lib.ListN.{length, get_or, take}
+use lib.ListN.{length, take}
 use Rattle.tables.specs.Answers.{Paper, yes, of_refusal}
 use Rattle.tables.specs.Data.{point_count, pair_count, point, base}
 use Rattle.tables.specs.Figures.{Figure}
@@ -17,14 +17,12 @@ use Rattle.tables.specs.declared.Refusal.{Refusal}
 use Rattle.tables.proofs.Table.{Silent, silent, silent_rows, or_false}
 use Rattle.tables.proofs.Figures.{figure}
 use Rattle.nets.specs.Layout.{net_of, Kept}
-use Rattle.nets.specs.Nets.{Net}
 use Rattle.nets.specs.Tilings.{Tiling}
 use Rattle.rooms.specs.Rest.{Rest}
 use Rattle.rooms.proofs.Cleared.{cleared_over, rest_cleared}
 use Rattle.rooms.proofs.Rooms.{refusal_not_yes}
-use Rattle.sheets.specs.Sheets.{Listed, SheetWritten}
+use Rattle.sheets.specs.Sheets.{SheetWritten}
 use Rattle.sheets.proofs.Keeps.{sheet_accepted}
-use Rattle.stages.specs.Stages.{Ends, Ground}
 use Rattle.stages.proofs.Agree.{Agrees, paired_too}
 use Rattle.stages.proofs.Stages.{started, finished, ends}
 use Rattle.builder.specs.Stages.{Delaunay}
@@ -32,8 +30,7 @@ use Rattle.carving.specs.Clearing.{Cleared, Ranged}
 use Rattle.carving.proofs.Clears.{cleared_net, cleared_kept, cleared_room, ranged_tiling}
 use Rattle.recovery.specs.Lines.{Lined}
 use Rattle.cutter.specs.Cuts.{asked, of_outcome, Written, Passed, Passed.sheet, Passed.stuck, Cutting}
-use Rattle.cutter.specs.declared.Outcome.{Outcome}
-use Rattle.cutter.specs.declared.Outcome.TheVariants as outcome
+use Rattle.std.specs.Prelude.{Result, Err}
 
 module _ (ps : List ℤ) (qs out w : List ℕ) (e : asked ps qs (length out) (length w) ≡ yes) where
   abbrev n : ℕ
@@ -147,12 +144,12 @@ module _ (ps : List ℤ) (qs out w : List ℕ) (e : asked ps qs (length out) (le
 -- ---- the whole call
 
 -- what passes leaves the working area cleared
-pub passed_left : {ps : List ℤ} {qs out w out' : List ℕ} {r : Outcome} → Passed ps qs out w out' r → left_work (of_outcome r) (point_count ps) w ≡ cleared (64 * point_count ps) w
+pub passed_left : {ps : List ℤ} {qs out w out' : List ℕ} {r : Result ℕ Refusal} → Passed ps qs out w out' r → left_work (of_outcome r) (point_count ps) w ≡ cleared (64 * point_count ps) w
 passed_left (sheet T s) = refl
 passed_left (stuck k l g e) = refl
 
 -- what passes with a working area passes with another as long
-passed_too : {ps : List ℤ} {qs out w w1 out' : List ℕ} {r : Outcome} → length w1 ≡ length w → Passed ps qs out w1 out' r → Passed ps qs out w out' r
+passed_too : {ps : List ℤ} {qs out w w1 out' : List ℕ} {r : Result ℕ Refusal} → length w1 ≡ length w → Passed ps qs out w1 out' r → Passed ps qs out w out' r
 passed_too {ps} {qs} {out' = out'} e (sheet T s) =
     sheet T (record {
       accepted = subst (λ (k : ℕ). verdict ps qs (take (3 * T) out') k ≡ yes) e s.accepted;
@@ -172,14 +169,6 @@ module _ (ps : List ℤ) (qs out w : List ℕ) {short : Bool} (i : short ≡ sho
 
   -- what the rows leave in the working area
   module _ {w1 : List ℕ} (j : w1 ≡ left_work (rows false short ps qs) (point_count ps) w) where
-    -- a refusal by the table
-    pub refused_so : (r : Refusal) → of_refusal r ≡ rows false short ps qs → Cutting ps qs out w out w1 (outcome.Refused r)
-    refused_so r t = record {
-      refused = λ n. (t ∙ same, refl);
-      passed = λ y. absurd (refusal_not_yes r (t ∙ same ∙ y));
-      left = j ∙ ap (λ (p : Paper). left_work p (point_count ps) w) (sym t);
-    }
-
     -- none refuses, and the working area is clear
     module _ (t : yes ≡ rows false short ps qs) where
       clear1 : w1 ≡ cleared (64 * point_count ps) w
@@ -191,10 +180,7 @@ module _ (ps : List ℤ) (qs out w : List ℕ) {short : Bool} (i : short ≡ sho
       none_refuses : asked ps qs (length out) (length w) ≡ yes
       none_refuses = sym (t ∙ same)
 
-      pub sheet_may : asked ps qs (length out) (length w1) ≡ yes
-      sheet_may = ap (asked ps qs (length out)) rest1.size ∙ none_refuses
-
-      pub passed_so : {out' w' : List ℕ} {r : Outcome} → Passed ps qs out w1 out' r → w' ≡ cleared (64 * point_count ps) w1 → Cutting ps qs out w out' w' r
+      pub passed_so : {out' w' : List ℕ} {r : Result ℕ Refusal} → Passed ps qs out w1 out' r → w' ≡ cleared (64 * point_count ps) w1 → Cutting ps qs out w out' w' r
       passed_so p l = record {
         refused = λ n. absurd (n none_refuses);
         passed = λ y. passed_too rest1.size p;

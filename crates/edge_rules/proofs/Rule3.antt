@@ -1,5 +1,5 @@
 -- Rule 3 by the length of the list. Assumes nothing.
-use mathlib.Core.Path.{◌≡◌, ap, ap₂, ◌∙◌}
+use mathlib.Core.Path.{◌≡◌, ap}
 use mathlib.Core.Bool.{Bool, ◌||◌}
 use mathlib.Core.List.{List}
 use Prim.Native.Nat.{ℕ, ◌%◌}

@@ -1,8 +1,8 @@
 -- Rule 7 by the marks, and an edge by the one reverse that it has. Assumes nothing.
-use mathlib.Core.Path.{◌≡◌, refl, sym, ap, ap₂, ◌∙◌}
-use mathlib.Core.Bool.{Bool, true, false, cond, not, ◌&&◌, ◌||◌}
+use mathlib.Core.Path.{◌≡◌, sym, ap, ap₂, ◌∙◌}
+use mathlib.Core.Bool.{Bool, true, false, cond, not, ◌||◌}
 use mathlib.Core.List.{List}
-use Prim.Native.Nat.{ℕ, zero, suc, ◌*◌, ◌%◌, ◌≤◌, ◌<◌}
+use Prim.Native.Nat.{ℕ, suc, ◌%◌, ◌<◌}
 use native.Mathlib.Omega.{arith}
 use lib.Dec.{eqb}
 use lib.IntN.{ℤ}
@@ -11,9 +11,10 @@ use Rattle.algebra.specs.Tests.{all_to}
 use Rattle.algebra.proofs.Tests.{by_test, or_true, all_of, all_fails, all_same}
 use Rattle.plane.specs.Halfedges.{nxt}
 use Rattle.tables.specs.Data.{point_count}
-use Rattle.tables.specs.Rules.{triples, corner, edge_is, reverse, is_pair, flips, rule2, rule7}
-use Rattle.edges.specs.Index.{last_edge}
-use Rattle.edges.proofs.Last.{last_is, last_le, last_none}
+use Rattle.tables.specs.Rules.{corner, reverse, is_pair, flips, rule2, rule7}
+use Rattle.std.specs.Prelude.{Option, Some, None}
+use Rattle.edges.specs.Index.{last_edge, found_at}
+use Rattle.edges.proofs.Last.{is_at, is_nowhere, last_is, last_le, last_none}
 use Rattle.list_rules.specs.Listed.{Marked, mark_of}
 use Rattle.list_rules.proofs.Once.{unique_edge, whole_length}
 use Rattle.edge_rules.specs.Stays.{stays, all_stay}
@@ -31,6 +32,19 @@ module _ (ps : List ℤ) (xs w : List ℕ) (h : ℕ) where
   pub alone_stays : last_edge xs (corner xs (nxt h)) (corner xs h) (length xs) ≡ 0 → true ≡ all_to (length xs) (stays ps xs w h)
   alone_stays e =
       sym (all_of (stays ps xs w h) (length xs) (λ g l. ap (λ (b : Bool). not b || not (eqb (mark_of (point_count ps) w h) 0) || not (flip g)) (last_none (reverse xs h) (length xs) g (omega arith) l)))
+
+  -- what the search for the reverse, from u on, found
+  abbrev back : ℕ → ℕ
+  back u = last_edge xs u (corner xs h) (length xs)
+
+  found : {u : ℕ} {r o : Option ℕ} → u ≡ corner xs (nxt h) → r ≡ found_at (back u) → r ≡ o → o ≡ found_at (back (corner xs (nxt h)))
+  found q e i = sym i ∙ e ∙ ap (λ (x : ℕ). found_at (back x)) q
+
+  pub reverse_at : {u g : ℕ} {r : Option ℕ} → u ≡ corner xs (nxt h) → r ≡ found_at (back u) → r ≡ Some g → back (corner xs (nxt h)) ≡ suc g
+  reverse_at {g = g} q e i = is_at (back (corner xs (nxt h))) g (found q e i)
+
+  pub no_reverse : {u : ℕ} {r : Option ℕ} → u ≡ corner xs (nxt h) → r ≡ found_at (back u) → r ≡ None → back (corner xs (nxt h)) ≡ 0
+  no_reverse q e i = is_nowhere (back (corner xs (nxt h))) (found q e i)
 
   module _ (whole : length xs % 3 ≡ 0) (once : rule2 xs ≡ true) (g : ℕ) (e : last_edge xs (corner xs (nxt h)) (corner xs h) (length xs) ≡ suc g) where
     pub low : g < length xs

@@ -1,5 +1,7 @@
 // The split of two triangles at a point on their common edge, in the lent working area. Crate nets says in specs/Layout what it makes of
 // the list, and in specs/Steps what it makes of the net. It stands apart from the other splits because its proof is the longest of them.
+//
+// The lent area stays one list of numbers with places in it: the rule of fixed memory asks for it, and crate nets fixes the layout.
 #![tactic(auto)]
 
 ghost use Rattle.std.specs.Prelude.{◌≡◌, ◌+◌, ◌*◌, ◌≤◌, ◌<◌, length};

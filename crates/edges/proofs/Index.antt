@@ -1,8 +1,7 @@
 -- One edge more in the index. Assumes nothing.
-use mathlib.Core.Path.{◌≡◌, refl, sym, ap, ◌∙◌, subst}
-use mathlib.Core.Bool.{Bool, true, false}
+use mathlib.Core.Path.{◌≡◌, sym, ap, ◌∙◌}
 use mathlib.Core.List.{List}
-use Prim.Native.Nat.{ℕ, suc, ◌+◌, ◌≤◌, ◌<◌}
+use Prim.Native.Nat.{ℕ, ◌+◌, ◌≤◌, ◌<◌}
 use native.Mathlib.Decide.{ℕ_discrete}
 use native.Mathlib.Numerals.{add-one}
 use native.Mathlib.Omega.{arith}
@@ -12,7 +11,7 @@ use lib.ListN.{length, get_or, set, length-set}
 use lib.Seq.{get_or-set_same, get_or-set_other}
 use Rattle.tables.specs.Rules.{corner}
 use Rattle.rooms.specs.Rest.{Rest}
-use Rattle.edges.specs.Index.{last_of, last_from, Corners, Fits, Indexed}
+use Rattle.edges.specs.Index.{last_from, Corners, Indexed}
 use Rattle.edges.proofs.Last.{last_yes, last_no}
 
 module _ (n : ℕ) (xs : List ℕ) (w : List ℕ) (h : ℕ) (low : h < length xs) (c : Corners n xs) (room : n + length xs ≤ length w) (i : Indexed n xs h w) where

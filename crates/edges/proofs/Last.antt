@@ -1,18 +1,17 @@
 -- The last number below k that passes a test. Assumes nothing.
-use mathlib.Core.Path.{◌≡◌, refl, sym, ap, ◌∙◌, subst}
-use mathlib.Core.Bool.{Bool, true, false, cond, not, ◌&&◌, ◌||◌, true≢false, false≢true}
+use mathlib.Core.Path.{◌≡◌, refl, sym, ap, ◌∙◌}
+use mathlib.Core.Bool.{Bool, true, false, not, ◌||◌}
 use mathlib.Core.List.{List}
-use Prim.Native.Nat.{ℕ, zero, suc, ◌+◌, ◌≤◌, ◌<◌}
+use Prim.Native.Nat.{ℕ, zero, suc, ◌≤◌, ◌<◌}
 use native.Mathlib.Nat.{not-suc-le-zero}
 use native.Mathlib.Decide.{dec_lt}
 use native.Mathlib.Omega.{arith}
-use lib.Dec.{eqb}
-use borrow.Author.Tests.{eq-eqb, ne_eqb, eqb-true, eqb-false}
-use lib.ListN.{length, get_or}
+use lib.Dec.{eqb, eqb-suc-zero}
+use borrow.Author.Tests.{ne_eqb}
 use Rattle.algebra.specs.Tests.{any_to}
-use Rattle.plane.specs.Halfedges.{nxt}
 use Rattle.tables.specs.Rules.{corner, edge_is}
-use Rattle.edges.specs.Index.{last_of, last_from, last_edge}
+use Rattle.std.specs.Prelude.{Option, Some, None, is_some}
+use Rattle.edges.specs.Index.{last_of, last_from, last_edge, found_at}
 
 -- by a test, with the equation
 by : {X : Type 0} (b : Bool) → (b ≡ true → X) → (b ≡ false → X) → X
@@ -69,6 +68,23 @@ module _ (f : ℕ → Bool) where
       or_false : (b : Bool) → (b || false) ≡ b
       or_false true = refl
       or_false false = refl
+
+  -- a search finds one exactly if some number below k passes
+  pub found_any : (k : ℕ) {r : Option ℕ} → r ≡ found_at (last_of f k) → is_some r ≡ any_to k f
+  found_any k e = ap is_some e ∙ by_number (last_of f k) ∙ sym (last_any k)
+    where
+      by_number : (m : ℕ) → is_some (found_at m) ≡ not (eqb m 0)
+      by_number zero = refl
+      by_number (suc m) = sym (ap not (eqb-suc-zero m))
+
+-- ---- a search's answer
+pub is_at : (m g : ℕ) → Some g ≡ found_at m → m ≡ suc g
+is_at zero g e = absurd (let z : ◌≡◌ {A = ℕ} 0 1 = cc in omega arith)
+is_at (suc m) g e = let z : m ≡ g = cc in ap suc z
+
+pub is_nowhere : (m : ℕ) → None ≡ found_at m → m ≡ 0
+is_nowhere zero e = refl
+is_nowhere (suc m) e = absurd (let z : ◌≡◌ {A = ℕ} 0 1 = cc in omega arith)
 
 -- ---- the last edge from u to v is among those that leave u
 module _ (xs : List ℕ) (u v : ℕ) where

@@ -1,9 +1,7 @@
 -- The index of the edges of a list xs of triples, in a list w of numbers. Edge h runs from the number at place h to the triple's next.
 -- Definitions only.
-use Rattle.std.specs.Prelude.{◌≡◌, Bool, cond, List, ℕ, zero, suc, ◌+◌, ◌≤◌, ◌<◌, eqb, length, get_or}
+use Rattle.std.specs.Prelude.{◌≡◌, Bool, cond, List, ℕ, zero, suc, ◌+◌, ◌≤◌, ◌<◌, eqb, length, get_or, Option, Some, None}
 use Rattle.tables.specs.Rules.{corner, edge_is}
-use Rattle.edges.specs.declared.Found.{Found}
-use Rattle.edges.specs.declared.Found.TheVariants.{At, Nowhere}
 
 -- one more than the last h below k that passes, or 0 where none does
 unfoldable pub last_of : (ℕ → Bool) → ℕ → ℕ
@@ -17,9 +15,10 @@ last_from xs u k = last_of (λ h. eqb (corner xs h) u) k
 abbrev pub last_edge : List ℕ → ℕ → ℕ → ℕ → ℕ
 last_edge xs u v k = last_of (λ h. edge_is xs h u v) k
 
-abbrev pub found_at : ℕ → Found
-found_at zero = Nowhere
-found_at (suc h) = At h
+-- the edge that such a number tells of
+abbrev pub found_at : ℕ → Option ℕ
+found_at zero = None
+found_at (suc h) = Some h
 
 -- the corners are point numbers below n
 abbrev pub Corners : ℕ → List ℕ → Type 0

@@ -1,5 +1,7 @@
 // An index of the directed edges of a list of triples, in lent room: for each point the last edge that leaves it, and for each edge the
 // one before it that leaves the same point. An edge is found along the few that leave its first end.
+//
+// The index stays heads and links in the lent room: the rule of fixed memory asks for it.
 #![tactic(auto)]
 
 ghost use Rattle.std.specs.Prelude.{◌≡◌, ℕ, ◌+◌, ◌≤◌, ◌<◌, ◌%◌, length, get_or};
@@ -7,14 +9,8 @@ ghost use Rattle.plane.specs.Halfedges.{nxt};
 ghost use Rattle.rooms.specs.Rest.{Rest};
 ghost use Rattle.edges.specs.Index.{Corners, Fits, Indexed, last_edge, found_at};
 
-// An edge of the list by its number, or that there is none.
-#[derive(Drop)]
-pub enum Found {
-    At(usize),
-    Nowhere,
-}
-
 // The edge after h in its triple.
+#[tactic(auto, unfolding(plane::specs::Halfedges::nxt))]
 pub fn next_edge(h: usize) -> usize
     requires { h < 4294967295 }
     ensures { result ≡ nxt h }
@@ -27,27 +23,25 @@ pub fn build(list: &[u32], work: &mut [u32], n: usize)
     requires { Corners n list.now × Fits n list.now work.old × Indexed n list.now 0 work.old }
     ensures { Indexed n list.now (length list.now) work.new × Rest (n + length list.now) work.old work.new }
 {
-    let mut h = 0;
-    while h < list.len() {
+    for h in 0..list.len() {
         let v = list[h] as usize;
         work[n + h] = work[v];
         work[v] = (h + 1) as u32;
-        h += 1;
     }
 }
 
-// The last edge from u to v.
-pub fn find(list: &[u32], work: &[u32], n: usize, u: u32, v: u32) -> Found
+// The last edge from u to v, if there is one.
+#[tactic(auto, using(crate::proofs::Search::nxt_low))]
+pub fn find(list: &[u32], work: &[u32], n: usize, u: u32, v: u32) -> Option<usize>
     requires { (u < n) × (length list.now % 3 ≡ 0) × Fits n list.now work.now × Indexed n list.now (length list.now) work.now }
     ensures { result ≡ found_at (last_edge list.now u v (length list.now)) }
 {
     let mut link = work[u as usize] as usize;
-    while 0 < link {
-        let h = link - 1;
+    while let Some(h) = link.checked_sub(1) {
         if list[next_edge(h)] == v {
-            return Found::At(h);
+            return Some(h);
         }
         link = work[n + h] as usize;
     }
-    Found::Nowhere
+    None
 }

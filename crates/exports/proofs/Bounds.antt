@@ -16,12 +16,10 @@ use Rattle.tables.specs.Refusals.{rows, rows8to10, rows4to10, bad_counts, far, n
 use Rattle.tables.specs.Rules.{rule1, rule2, rule3, rule4, rule5, rule6, rule7, rule8}
 use Rattle.tables.specs.Verdicts.{and_then, rules, refusals, verdict}
 use Rattle.tables.specs.declared.Refusal.{Refusal}
-use Rattle.tables.specs.declared.Lowest.{Lowest}
-use Rattle.tables.specs.declared.Lowest.TheVariants.{At, Nowhere}
+use Rattle.std.specs.Prelude.{Option, Some, None}
 use Rattle.tables.proofs.Table.{lowest_at, or_false}
 use Rattle.cutter.specs.Cuts.{Cutting, Passed, sheet, stuck, asked, of_outcome}
-use Rattle.cutter.specs.declared.Outcome.{Outcome}
-use Rattle.cutter.specs.declared.Outcome.TheVariants.{Sheet, Refused}
+use Rattle.std.specs.Prelude.{Result, Ok, Err}
 use Rattle.row_numbers.specs.Numbers.{value_in, place_of}
 use Rattle.packing.specs.Packed.{shift, packed}
 use Rattle.exports.specs.Told.{cut_number, cut_value, Told}
@@ -34,9 +32,9 @@ row_below j false after h = h
 at_below : (j n : ℕ) (f : ℕ → Bool) (after : Paper) → n ≤ 12288 → value_in after < shift → value_in (row_at j (lowest n f) after) < shift
 at_below j n f after l h = go (lowest n f) refl
   where
-    go : (a : Lowest) → lowest n f ≡ a → value_in (row_at j a after) < shift
-    go (At i) e = let b = (lowest_at f n i e).below in omega arith
-    go Nowhere e = h
+    go : (a : Option ℕ) → lowest n f ≡ a → value_in (row_at j a after) < shift
+    go (Some i) e = let b = (lowest_at f n i e).below in omega arith
+    go None e = h
 
 -- row 2 bounds the counts for the rows after it
 counted : (n m : ℕ) (after : Paper) → (n ≤ 4096 → m ≤ 12288 → value_in after < shift) → value_in (row 2 (bad_counts n m) after) < shift
@@ -108,7 +106,7 @@ few odd short ps qs e =
     let y = ltb-false 12288 (pair_count qs) p.1 in
     record { points = omega arith; pairs = omega arith }
 
-passed_below : (ps : List ℤ) (qs out work out' : List ℕ) (r : Outcome) → Few ps qs → Passed ps qs out work out' r → cut_value r < shift
+passed_below : (ps : List ℤ) (qs out work out' : List ℕ) (r : Result ℕ Refusal) → Few ps qs → Passed ps qs out work out' r → cut_value r < shift
 passed_below ps qs out work out' r f (sheet T w) = few_triples T (point_count ps) (on_rim (point ps) (base ps) (point_count ps)) f.points w.count
   where
     few_triples : (T n h : ℕ) → n ≤ 4096 → T + 2 + h ≡ 2 * n → T < shift
@@ -119,16 +117,16 @@ passed_below ps qs out work out' r f (stuck k l g e) = small k (pair_count qs) f
     small k m l h = omega arith
 
 -- the paper's value of an outcome is the outcome's, where the paper refuses
-refused_below : (r : Outcome) (p : Paper) → ¬ (p ≡ good) → of_outcome r ≡ p → value_in p < shift → cut_value r < shift
-refused_below (Sheet T) p f e h = absurd (f (sym e))
-refused_below (Refused r) p f e h = subst (λ (q : Paper). value_in q < shift) (sym e) h
+refused_below : (r : Result ℕ Refusal) (p : Paper) → ¬ (p ≡ good) → of_outcome r ≡ p → value_in p < shift → cut_value r < shift
+refused_below (Ok T) p f e h = absurd (f (sym e))
+refused_below (Err r) p f e h = subst (λ (q : Paper). value_in q < shift) (sym e) h
 
 asked_yes : (p : Paper) → Dec (p ≡ good)
 asked_yes good = yes refl
 asked_yes (refuses k i) = no (λ e. let z : ◌≡◌ {A = ℕ} 0 1 = cc in omega arith)
 asked_yes (breaks k) = no (λ e. let z : ◌≡◌ {A = ℕ} 0 1 = cc in omega arith)
 
-pub cut_below : (ps : List ℤ) (qs out work out' work' : List ℕ) (r : Outcome) → Cutting ps qs out work out' work' r → cut_value r < shift
+pub cut_below : (ps : List ℤ) (qs out work out' work' : List ℕ) (r : Result ℕ Refusal) → Cutting ps qs out work out' work' r → cut_value r < shift
 cut_below ps qs out work out' work' r c = go (asked_yes (asked ps qs (length out) (length work)))
   where
     go : Dec (asked ps qs (length out) (length work) ≡ good) → cut_value r < shift
@@ -141,26 +139,26 @@ cut_below ps qs out work out' work' r c = go (asked_yes (asked ps qs (length out
 flat : (k : ℕ) → k ≡ 0 * 4294967296 + k
 flat k = omega arith
 
-module _ (ps : List ℤ) (qs out work out' work' : List ℕ) (o : Outcome) (c : Cutting ps qs out work out' work' o) where
+module _ (ps : List ℤ) (qs out work out' work' : List ℕ) (o : Result ℕ Refusal) (c : Cutting ps qs out work out' work' o) where
   -- a refusal of the cutter has a small place
-  pub cut_place : (r : Refusal) → o ≡ Refused r → place_of r < shift
-  cut_place r q = subst (λ (x : Outcome). cut_value x < shift) q (cut_below ps qs out work out' work' o c)
+  pub cut_place : (r : Refusal) → o ≡ Err r → place_of r < shift
+  cut_place r q = subst (λ (x : Result ℕ Refusal). cut_value x < shift) q (cut_below ps qs out work out' work' o c)
 
   -- the answers tell the outcome
-  pub told_sheet : (T r : ℕ) → o ≡ Sheet T → r ≡ T → Told ps qs out work out' work' r
+  pub told_sheet : (T r : ℕ) → o ≡ Ok T → r ≡ T → Told ps qs out work out' work' r
   told_sheet T r q e =
       record {
         outcome = o;
         promise = c;
-        number = subst (λ (x : Outcome). r ≡ cut_number x * shift + cut_value x) (sym q) (e ∙ flat T);
+        number = subst (λ (x : Result ℕ Refusal). r ≡ cut_number x * shift + cut_value x) (sym q) (e ∙ flat T);
         small = cut_below ps qs out work out' work' o c;
       }
 
-  pub told_refusal : (f : Refusal) (r : ℕ) → o ≡ Refused f → r ≡ packed (of_refusal f) → Told ps qs out work out' work' r
+  pub told_refusal : (f : Refusal) (r : ℕ) → o ≡ Err f → r ≡ packed (of_refusal f) → Told ps qs out work out' work' r
   told_refusal f r q e =
       record {
         outcome = o;
         promise = c;
-        number = subst (λ (x : Outcome). r ≡ cut_number x * shift + cut_value x) (sym q) e;
+        number = subst (λ (x : Result ℕ Refusal). r ≡ cut_number x * shift + cut_value x) (sym q) e;
         small = cut_below ps qs out work out' work' o c;
       }

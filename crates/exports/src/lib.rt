@@ -1,5 +1,5 @@
-// The library for programs in other languages, by numbers alone: cut, check, and the signs of orientation and circle. c/dergulam.h declares these
-// functions and says what each number means.
+// The library for programs in other languages, by numbers alone, as the C interface asks: cut, check, and the signs of orientation and
+// circle. c/dergulam.h declares these functions and says what each number means, so they stay as they are, though signs_c has two of them too.
 #![tactic(auto)]
 
 ghost use Rattle.std.specs.Prelude.{◌≡◌, length};
@@ -10,7 +10,7 @@ ghost use Rattle.tables.specs.Verdicts.{verdict, left_work};
 ghost use Rattle.packing.specs.Packed.{Judged};
 ghost use Rattle.exports.specs.Told.{Told};
 
-use cutter::Outcome;
+use signs::Point;
 
 // Cuts a figure: 0 and the number of triples, or a refusal's number and its place.
 #[unsafe(no_mangle)]
@@ -22,10 +22,9 @@ pub extern "C" fn dergulam_cut(
 ) -> u64
     ensures { Told points.now pairs.now out.old work.old out.new work.new result }
 {
-    let answer = cutter::cut(points, pairs, out, work);
-    match answer {
-        Outcome::Sheet(count) => count as u64,
-        Outcome::Refused(r) => packing::refusal(r),
+    match cutter::cut(points, pairs, out, work) {
+        Ok(count) => count as u64,
+        Err(r) => packing::refusal(r),
     }
 }
 
@@ -40,8 +39,7 @@ pub extern "C" fn dergulam_check(
     ensures answer { Judged (verdict points.now pairs.now list.now (length work.old)) result }
     ensures work { work.new ≡ left_work (verdict points.now pairs.now list.now (length work.old)) (point_count points.now) work.old }
 {
-    let answer = checker::check(points, pairs, list, work);
-    packing::verdict(answer)
+    packing::verdict(checker::check(points, pairs, list, work))
 }
 
 // -1, 0, 1, or 2 for out of range
@@ -49,7 +47,10 @@ pub extern "C" fn dergulam_check(
 pub extern "C" fn dergulam_orient_sign(ax: i32, ay: i32, bx: i32, by: i32, cx: i32, cy: i32) -> i32
     ensures { result ≡ whole_number (orient_answer limit (at ax ay) (at bx by) (at cx cy)) }
 {
-    sign_numbers::number_of(signs::orient_sign(ax, ay, bx, by, cx, cy))
+    let a = Point { x: ax, y: ay };
+    let b = Point { x: bx, y: by };
+    let c = Point { x: cx, y: cy };
+    sign_numbers::number_of(signs::orient_sign(a, b, c))
 }
 
 // -1, 0, 1, or 2 for out of range
@@ -66,5 +67,9 @@ pub extern "C" fn dergulam_circle_sign(
 ) -> i32
     ensures { result ≡ whole_number (circle_answer limit (at ax ay) (at bx by) (at cx cy) (at dx dy)) }
 {
-    sign_numbers::number_of(signs::circle_sign(ax, ay, bx, by, cx, cy, dx, dy))
+    let a = Point { x: ax, y: ay };
+    let b = Point { x: bx, y: by };
+    let c = Point { x: cx, y: cy };
+    let d = Point { x: dx, y: dy };
+    sign_numbers::number_of(signs::circle_sign(a, b, c, d))
 }

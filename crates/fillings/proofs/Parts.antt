@@ -1,16 +1,19 @@
 -- The steps of the filling, put together. Assumes nothing.
 use mathlib.Core.Bool.{true, false}
 use mathlib.Core.List.{List}
-use mathlib.Core.Path.{◌≡◌, sym, ap, ◌∙◌, subst}
+use mathlib.Core.Path.{◌≡◌, refl, sym, ap, ◌∙◌, subst}
 use Prim.Native.Nat.{ℕ, suc, ◌+◌, ◌-◌, ◌*◌, ◌≤◌, ◌<◌}
 use native.Mathlib.Omega.{arith}
 use lib.IntN.{ℤ}
+use Rattle.std.specs.Prelude.{Result, Err, ⊤}
 use Rattle.plane.specs.Points.{Pt}
 use Rattle.chains.specs.Areas.{chain_of, slot_of, move_w, join_w, cut_w, Room, Still}
 use Rattle.chains.specs.Scans.{left_of, apex}
-use Rattle.chains.specs.Fillings.{FillW, NoApex, Filled}
+use Rattle.chains.specs.Fillings.{FillW, NoApex, Filled, Came}
 use Rattle.chains.specs.Fillings.FillW.{gap, node}
 use Rattle.chains.specs.Fillings.NoApex.{here, before, after}
+use Rattle.chains.specs.declared.Reason.{Reason}
+use Rattle.chains.specs.declared.Reason.TheVariants.{Apex}
 use Rattle.chains.proofs.Rooms.{still_none, still_step, move_still, join_still, cut_still, move_room, join_room, cut_room, chain_still, slot_still}
 use Rattle.seams.proofs.Fitting.{slot_low}
 
@@ -37,8 +40,11 @@ module _ (P : ℕ → Pt ℤ) (n t : ℕ) where
   }
 
   pub stuck_here : (w : List ℕ) (i j k : ℕ) → i + 1 < j → k ≡ apex P (chain_of n w) i j → left_of P (chain_of n w i) (chain_of n w j) (chain_of n w k) ≡ false →
-      NoApex P (chain_of n w) i j × Still n w w
-  stuck_here w i j k l is f = (here l is f, still_none n w)
+      (Apex ≡ Apex) × NoApex P (chain_of n w) i j × Still n w w
+  stuck_here w i j k l is f = (refl, here l is f, still_none n w)
+
+  pub came_stuck : {w w' : List ℕ} {i j : ℕ} (p top : ℕ) {e : Reason} {out : Result ⊤ Reason} → out ≡ Err e → e ≡ Apex → NoApex P (chain_of n w) i j × Still n w w' → Came P n t w i j p top w' out
+  came_stuck {w} {w'} {i} {j} p top q a s = subst (Came P n t w i j p top w') (sym q) (a, s.0, s.1)
 
   count1 : (i j k p r : ℕ) → i < k → k < j → r ≡ p + (j - i - 2) → p + (k - i - 1) + (j - k - 1) ≡ r
   count1 i j k p r a b e = omega arith

@@ -10,7 +10,7 @@ ghost use Rattle.tables.specs.Figures.{Figure};
 ghost use Rattle.chains.specs.Areas.{chain_of, slot_of, cut_w, Room};
 ghost use Rattle.chains.specs.Fillings.{Came};
 
-use chains::Filling;
+use chains::Reason;
 
 // The y-th crossed slot gets the corners at the places i, j and k of the chain.
 fn cut_over(
@@ -46,26 +46,22 @@ pub fn fill(
     j: usize,
     p: usize,
     top: usize,
-) -> Filling
+) -> Result<(), Reason>
     requires figure { Figure points.now × (n ≡ point_count points.now) }
     requires room { Room n count work.old × (i < j) × (j < 2 * n) × (p + (j - i) ≤ 2 * n) × (top < 8 * n + 2) }
     ensures { Came (point points.now) n count work.old i j p top work.new result }
 {
     if j == i + 1 {
         seams::move_to(work, 6 * n + i, top);
-        return Filling::Done;
+        return Ok(());
     }
     let k = apexes::choose(points, work, n, count, i, j);
     if !apexes::is_over(points, work, n, count, i, j, k) {
-        return Filling::Stuck;
+        return Err(Reason::Apex);
     }
     let s = cut_over(work, n, count, i, j, k, p + (j - i - 2));
-    let Filling::Done = fill(points, work, n, count, i, k, p, 3 * s + 2) else {
-        return Filling::Stuck;
-    };
-    let Filling::Done = fill(points, work, n, count, k, j, p + (k - i - 1), 3 * s + 1) else {
-        return Filling::Stuck;
-    };
+    fill(points, work, n, count, i, k, p, 3 * s + 2)?;
+    fill(points, work, n, count, k, j, p + (k - i - 1), 3 * s + 1)?;
     seams::join(work, 3 * s, top);
-    Filling::Done
+    Ok(())
 }

@@ -1,99 +1,88 @@
 -- Step 3 as the code tries it: points compared by their coordinates, rank pairs by the points alone, and the circle sign by cases.
 -- Assumes nothing.
-use mathlib.Core.Path.{◌≡◌, refl, sym, ap₂, ◌∙◌, subst}
-use mathlib.Core.Bool.{Bool, true, false, ◌&&◌, ◌||◌}
-use mathlib.Core.List.{List, [], ◌∷◌}
-use Prim.Native.Nat.{ℕ, ◌+◌, ◌*◌, ◌<◌}
+use mathlib.Core.Path.{◌≡◌, refl, sym, ap, ap₂, ◌∙◌, subst}
+use mathlib.Core.Logic.{inl, inr}
+use mathlib.Core.Bool.{Bool, true, false, cond, ◌&&◌, ◌||◌}
+use mathlib.Core.List.{List}
+use Prim.Native.Nat.{ℕ, ◌<◌}
 use lib.Dec.{T}
-use lib.IntN.{ℤ, pos}
-use lib.ListN.{get_or}
-use lib.Signed.{lt_z, ◌<ℤ◌, lt_z_yes, <ℤ_irrefl}
-use mir.Syntax.{w32}
-use mir.Val.{SFits, of_z}
+use lib.IntN.{ℤ}
+use lib.Signed.{◌<ℤ◌}
+use Rattle.std.specs.Prelude.{Option, Some}
+use Rattle.std.proofs.Common.{Ordering, Less, Equal, Greater, is_lt, int_cmp}
+use Rattle.std.specs.Ordering.{MatchOrdering, is_some_and, partial_ordering_then}
+use Rattle.std.proofs.lemmas.Cmp.{int_ranked}
 use Rattle.algebra.specs.Tests.{posb}
-use Rattle.algebra.proofs.Machine.{arg, back, back_same, fits_small}
-use Rattle.algebra.proofs.Tests.{or_false}
 use Rattle.plane.specs.Points.{Pt}
 use Rattle.plane.specs.Determinants.{orient, incircle}
-use Rattle.plane.proofs.Sign.{eq_z_eq}
-use Rattle.signs.specs.Answers.{limit}
 use Rattle.signs.specs.Signs.{sign_z}
 use Rattle.signs.specs.declared.Sign.{Sign}
 use Rattle.signs.specs.declared.Sign.TheVariants.{Neg, Zero, Pos}
 use Rattle.tables.specs.Data.{point_count, point, same}
 use Rattle.tables.specs.Rules.{before, rank, pair_below, wins, flips}
-use Rattle.tables.proofs.Table.{true_t, T_true, not_t_false, same_point, point_same}
-use Rattle.tables.proofs.Ranks.{Order, less, equal, more, order, before_irrefl, before_not, low_of, high_of, pair_below_lem}
-use Rattle.segments.specs.Near.{Near}
+use Rattle.tables.proofs.Table.{T_true, not_t_false, same_point, point_same}
+use Rattle.tables.proofs.Ranks.{Order, less, equal, more, order, Before, reads_before, before_irrefl, before_not, low_of, high_of, pair_below_lem}
 use Rattle.segments.specs.Tests.{is_pos, is_zero}
-use Rattle.segments.proofs.Compare.{same_bits, other_bits}
 use Rattle.segments.proofs.SignTests.{pos_told, zero_told}
 
--- ---- two points by their coordinates
+-- ---- two places, as the code compares them: by x, then by y
 
-irrefl : (a b : ℤ) → a ≡ b → lt_z a b ≡ false
-irrefl a b e = not_t_false (lt_z a b) (λ t. <ℤ_irrefl (subst (λ (z : ℤ). z <ℤ b) e (lt_z_yes t)))
+abbrev told : Bool → Bool → Option Ordering
+told a b = cond a (Some Less) (cond b (Some Greater) (Some Equal))
 
-module _ (ps : List ℤ) (near : Near ps) where
-  abbrev at : ℕ → ℤ
-  at k = get_or ps k (pos 0)
+told_lt : (a b : Bool) → is_some_and is_lt (told a b) ≡ a
+told_lt true b = refl
+told_lt false true = refl
+told_lt false false = refl
 
-  same_read : (k l : ℕ) → lt_z (back w32 (at k)) (back w32 (at l)) ≡ lt_z (at k) (at l)
-  same_read k l = ap₂ lt_z (back_same w32 limit (at k) (near k) tt) (back_same w32 limit (at l) (near l) tt)
+abbrev place_cmp : Pt ℤ → Pt ℤ → Option Ordering
+place_cmp p q = partial_ordering_then (Some (int_cmp p.x q.x)) (Some (int_cmp p.y q.y))
 
-  fit : (i : ℕ) → SFits w32 (at (2 * i))
-  fit i = fits_small w32 limit (at (2 * i) ∷ []) (near (2 * i), tt) (arg 0) tt
+module _ (p q : Pt ℤ) where
+  equal_not : p ≡ q → (before p q ≡ false) × (before q p ≡ false)
+  equal_not e = (
+    not_t_false (before p q) (λ s. before_irrefl q (subst (λ (z : Pt ℤ). T (before z q)) e s)),
+    not_t_false (before q p) (λ s. before_irrefl q (subst (λ (z : Pt ℤ). T (before q z)) e s)),
+  )
 
-  module _ (i j : ℕ) where
-    pub before_tied : of_z w32 (at (2 * i)) ≡ of_z w32 (at (2 * j)) → lt_z (back w32 (at (2 * i + 1))) (back w32 (at (2 * j + 1))) ≡ before (point ps i) (point ps j)
-    unfolding before point
-    before_tied e =
-        let t = same_bits w32 (at (2 * i)) (at (2 * j)) (fit i) (fit j) e in
-        same_read (2 * i + 1) (2 * j + 1) ∙ sym (rw (irrefl (at (2 * i)) (at (2 * j)) (eq_z_eq (at (2 * i)) (at (2 * j)) (true_t t)), t))
+  place_told : place_cmp p q ≡ told (before p q) (before q p)
+  place_told = go (int_cmp p.x q.x) (int_cmp p.y q.y) (int_ranked p.x q.x (int_cmp p.x q.x) refl) (int_ranked p.y q.y (int_cmp p.y q.y) refl)
+    where
+      is_less : Before p q → Some Less ≡ told (before p q) (before q p)
+      is_less h = rw (T_true (before p q) ((reads_before p q).shows h))
 
-    pub before_apart : (of_z w32 (at (2 * i)) ≡ of_z w32 (at (2 * j)) → ⊥) → lt_z (back w32 (at (2 * i))) (back w32 (at (2 * j))) ≡ before (point ps i) (point ps j)
-    unfolding before point
-    before_apart e = same_read (2 * i) (2 * j) ∙ sym (rw (other_bits w32 (at (2 * i)) (at (2 * j)) (fit i) (fit j) e) (or_false (lt_z (at (2 * i)) (at (2 * j)))))
+      is_more : Before q p → Some Greater ≡ told (before p q) (before q p)
+      is_more h = let t = (reads_before q p).shows h in rw (before_not q p t, T_true (before q p) t)
+
+      is_equal : p ≡ q → Some Equal ≡ told (before p q) (before q p)
+      is_equal e = let n = equal_not e in rw (n.0, n.1)
+
+      go : (o o' : Ordering) → MatchOrdering o (p.x <ℤ q.x) (p.x ≡ q.x) (q.x <ℤ p.x) → MatchOrdering o' (p.y <ℤ q.y) (p.y ≡ q.y) (q.y <ℤ p.y)
+          → partial_ordering_then (Some o) (Some o') ≡ told (before p q) (before q p)
+      go Less o' h k = is_less (inl h)
+      go Greater o' h k = is_more (inl h)
+      go Equal Less e k = is_less (inr (e, k))
+      go Equal Greater e k = is_more (inr (sym e, k))
+      go Equal Equal e k = is_equal (λ i. record { x = e i; y = k i })
+
+  pub place_lt : is_some_and is_lt (place_cmp p q) ≡ before p q
+  place_lt = ap (is_some_and is_lt) place_told ∙ told_lt (before p q) (before q p)
+
+-- two pairs of places, where the first are one place by the second
+module _ (p q : Pt ℤ) where
+  pub places_lt : (p' q' : Pt ℤ) → is_some_and is_lt (partial_ordering_then (place_cmp p q) (place_cmp p' q')) ≡ (before p q || (same p q && before p' q'))
+  places_lt p' q' = ap₂ (λ (o o' : Option Ordering). is_some_and is_lt (partial_ordering_then o o')) (place_told p q) (place_told p' q') ∙ go (order p q)
+    where
+      go : Order p q → is_some_and is_lt (partial_ordering_then (told (before p q) (before q p)) (told (before p' q') (before q' p'))) ≡ (before p q || (same p q && before p' q'))
+      go (less t) = rw (T_true (before p q) t)
+      go (equal e) = let n = equal_not p q e in rw (n.0, n.1, point_same p q e) (told_lt (before p' q') (before q' p'))
+      go (more t) = rw (before_not q p t, T_true (before q p) t, not_t_false (same p q) (λ s. before_irrefl q (subst (λ (z : Pt ℤ). T (before q z)) (same_point p q (T_true (same p q) s)) t)))
 
 -- ---- rank pairs by the points alone
-
--- where p is not before q, the test of two pairs with these lows, of whose highs t tells
-module _ (p q : Pt ℤ) (t : Bool) where
-  above : before q p ≡ true → (before p q || (same p q && t)) ≡ false
-  above h = rw (before_not q p (true_t h), not_t_false (same p q) (λ s. before_irrefl q (subst (λ (z : Pt ℤ). T (before q z)) (same_point p q (T_true (same p q) s)) (true_t h))))
-
-  tied : before p q ≡ false → before q p ≡ false → (before p q || (same p q && t)) ≡ t
-  tied h k = go (order p q)
-    where
-      go : Order p q → (before p q || (same p q && t)) ≡ t
-      go (less s) = absurd (subst T h s)
-      go (equal e) = rw (h, point_same p q e)
-      go (more s) = absurd (subst T k s)
-
--- with the numbers of the lows, p of c and d and q of a and b
-module _ (ps : List ℤ) (a b c d : ℕ) (la : a < point_count ps) (lb : b < point_count ps) (lc : c < point_count ps) (ld : d < point_count ps)
-    (p q : ℕ) (low : point ps p ≡ low_of (point ps c) (point ps d)) (low' : point ps q ≡ low_of (point ps a) (point ps b)) where
-  abbrev below : Bool
-  below = pair_below (rank ps c) (rank ps d) (rank ps a) (rank ps b)
-
-  abbrev highs : Bool
-  highs = before (high_of (point ps c) (point ps d)) (high_of (point ps a) (point ps b))
-
-  below_is : below ≡ (before (point ps p) (point ps q) || (same (point ps p) (point ps q) && highs))
-  below_is = pair_below_lem ps a b c d la lb lc ld ∙ sym (rw (low, low'))
-
-  -- the lows are compared both ways, and then the highs
-  pub below_1 : {r : Bool} → r ≡ before (point ps p) (point ps q) → r ≡ true → true ≡ below
-  below_1 e h = rw (below_is, ← e, h)
-
-  pub below_2 : {r : Bool} → r ≡ before (point ps q) (point ps p) → r ≡ true → false ≡ below
-  below_2 e h = sym (below_is ∙ above (point ps p) (point ps q) highs (sym e ∙ h))
-
-  pub below_3 : {r r' r'' : Bool} (p' q' : ℕ) → point ps p' ≡ high_of (point ps c) (point ps d) → point ps q' ≡ high_of (point ps a) (point ps b) →
-      r ≡ before (point ps p) (point ps q) → r ≡ false → r' ≡ before (point ps q) (point ps p) → r' ≡ false →
-      r'' ≡ before (point ps p') (point ps q') → r'' ≡ below
-  below_3 p' q' high high' e h e' h' e'' =
-      e'' ∙ ap₂ before high high' ∙ sym (below_is ∙ tied (point ps p) (point ps q) highs (sym e ∙ h) (sym e' ∙ h'))
+module _ (ps : List ℤ) (a b c d : ℕ) (la : a < point_count ps) (lb : b < point_count ps) (lc : c < point_count ps) (ld : d < point_count ps) where
+  pub below_by : {p p' q q' : Pt ℤ} → p ≡ low_of (point ps c) (point ps d) → p' ≡ high_of (point ps c) (point ps d) → q ≡ low_of (point ps a) (point ps b) → q' ≡ high_of (point ps a) (point ps b)
+      → (before p q || (same p q && before p' q')) ≡ pair_below (rank ps c) (rank ps d) (rank ps a) (rank ps b)
+  below_by e f g h = rw (e, f, g, h) (sym (pair_below_lem ps a b c d la lb lc ld))
 
 -- ---- the circle sign by cases
 

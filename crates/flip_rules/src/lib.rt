@@ -5,6 +5,7 @@
 
 ghost use Rattle.std.specs.Prelude.{◌≡◌, cond, ◌&&◌, ◌<◌};
 ghost use Rattle.algebra.specs.Tests.{posb};
+ghost use Rattle.plane.specs.Points.{at};
 ghost use Rattle.tables.specs.Data.{point_count, point};
 ghost use Rattle.tables.specs.Rules.{rank, pair_below, flips};
 ghost use Rattle.segments.specs.Near.{Near};
@@ -13,36 +14,24 @@ ghost use Rattle.flip_rules.specs.Order.{comes_before};
 
 use signs::Sign;
 
-// Point i is before point j in the order of x, then y.
-fn before(points: &[i32], i: usize, j: usize) -> bool
-    requires near { Near points.now }
-    requires i_bound { (i < point_count points.now) × (j < point_count points.now) }
-    ensures { result ≡ comes_before points.now i j }
+// A point's coordinates, which compare by x and then by y.
+fn place(points: &[i32], i: usize) -> (i32, i32)
+    requires { i < point_count points.now }
+    ensures { at result.0 result.1 ≡ point points.now i }
 {
-    let px = points[2 * i];
-    let qx = points[2 * j];
-    if px == qx {
-        points[2 * i + 1] < points[2 * j + 1]
-    } else {
-        px < qx
-    }
+    let p = segments::point_at(points, i);
+    (p.x, p.y)
 }
 
-// Of two points, the one that is before the other, and the other.
-fn lower(points: &[i32], i: usize, j: usize) -> usize
+// The places of two points, first that of the one before the other.
+fn places(points: &[i32], i: usize, j: usize) -> ((i32, i32), (i32, i32))
     requires near { Near points.now }
     requires i_bound { (i < point_count points.now) × (j < point_count points.now) }
-    ensures { (result < point_count points.now) × (point points.now result ≡ cond (comes_before points.now i j) (point points.now i) (point points.now j)) }
+    ensures { (at result.0.0 result.0.1 ≡ cond (comes_before points.now i j) (point points.now i) (point points.now j)) × (at result.1.0 result.1.1 ≡ cond (comes_before points.now i j) (point points.now j) (point points.now i)) }
 {
-    if before(points, i, j) { i } else { j }
-}
-
-fn upper(points: &[i32], i: usize, j: usize) -> usize
-    requires near { Near points.now }
-    requires i_bound { (i < point_count points.now) × (j < point_count points.now) }
-    ensures { (result < point_count points.now) × (point points.now result ≡ cond (comes_before points.now i j) (point points.now j) (point points.now i)) }
-{
-    if before(points, i, j) { j } else { i }
+    let p = place(points, i);
+    let q = place(points, j);
+    if p < q { (p, q) } else { (q, p) }
 }
 
 // The rank pair of c and d is below that of a and b. Points compare as their ranks do, so the points are compared and no rank is counted.
@@ -51,15 +40,7 @@ fn pair_below(points: &[i32], c: usize, d: usize, a: usize, b: usize) -> bool
     requires a_bound { (a < point_count points.now) × (b < point_count points.now) × (c < point_count points.now) × (d < point_count points.now) }
     ensures { result ≡ pair_below (rank points.now c) (rank points.now d) (rank points.now a) (rank points.now b) }
 {
-    let p = lower(points, c, d);
-    let q = lower(points, a, b);
-    if before(points, p, q) {
-        return true;
-    }
-    if before(points, q, p) {
-        return false;
-    }
-    before(points, upper(points, c, d), upper(points, a, b))
+    places(points, c, d) < places(points, a, b)
 }
 
 // The triangles that a flip of a b to c d makes are both strictly counterclockwise.
@@ -78,8 +59,7 @@ pub fn would_flip(points: &[i32], a: usize, b: usize, c: usize, d: usize) -> boo
     requires a_bound { (a < point_count points.now) × (b < point_count points.now) × (c < point_count points.now) × (d < point_count points.now) }
     ensures { result ≡ flips points.now a b c d }
 {
-    let sign = segments::circle_at(points, a, b, c, d);
-    match sign {
+    match segments::circle_at(points, a, b, c, d) {
         Sign::Pos => can_turn(points, a, b, c, d),
         Sign::Zero => pair_below(points, c, d, a, b) && can_turn(points, a, b, c, d),
         Sign::Neg => false,

@@ -9,7 +9,7 @@ use lib.Seq.{get_or-set_other}
 use Rattle.plane.specs.Halfedges.{nxt}
 use Rattle.nets.specs.Layout.{cell, net_of, tell, tells, put_rec, hint, born, flip_list}
 use Rattle.nets.specs.Moves.{Move}
-use Rattle.nets.specs.Nets.{Net, prv}
+use Rattle.nets.specs.Nets.{prv}
 use Rattle.nets.specs.Slots.{Rec}
 use Rattle.nets.specs.Steps.{flip_moves, flip_a, flip_b}
 use Rattle.nets.proofs.Slot.{nxt_in}

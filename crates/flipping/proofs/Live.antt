@@ -1,11 +1,12 @@
 -- The loop of flipping: what holds between two suspects, and what each kind of turn makes of it. Assumes nothing.
-use mathlib.Core.List.{List, [], ◌∷◌}
+use mathlib.Core.List.{List, ◌∷◌}
 use mathlib.Core.Path.{◌≡◌, refl, sym, ap, ◌∙◌, subst}
-use Prim.Native.Nat.{ℕ, zero, suc, ◌+◌, ◌-◌, ◌*◌, ◌/◌, ◌%◌, ◌<◌, ◌≤◌}
+use Prim.Native.Nat.{ℕ, suc, ◌+◌, ◌-◌, ◌*◌, ◌/◌, ◌%◌, ◌<◌, ◌≤◌}
 use native.Mathlib.Omega.{arith}
 use lib.IntN.{ℤ}
 use lib.ListN.{length, get_or, set}
 use lib.Seq.{get_or-set_other}
+use Rattle.plane.specs.Points.{Pt}
 use Rattle.tables.specs.Data.{point_count, point, base}
 use Rattle.tables.specs.Figures.{Figure}
 use Rattle.tables.specs.Rules.{rank}
@@ -24,6 +25,7 @@ use Rattle.nets.proofs.Places.{net_set, tiling_range, flip_net}
 use Rattle.nets.proofs.Suspects.{turn_falls}
 use Rattle.suspects.specs.Stack.{stack, Fresh, Suspects, Aside, Reborn}
 use Rattle.suspects.proofs.Stack.{stack_none, stack_length, stack_same, suspects_same, popped_low, popped_is, popped_fresh, popped_suspects}
+use Rattle.std.specs.Prelude.{Some, None}
 use Rattle.wants.specs.Tries.{Ready, First, edge, none}
 use Rattle.flipping.specs.Above.{Above}
 use Rattle.flipping.proofs.Elsewhere.{flip_off}
@@ -80,12 +82,14 @@ pub record Found (ps : List ℤ) (count : ℕ) (w : List ℕ) (t e : ℕ) : Type
   pub before : (x y : ℕ) → x < 3 * t + e → x / 3 ≡ t → ¬ Wants (point ps) (rank ps) (net_of w count) x y
   pub some : 0 < get_or w (16 * t + 3 + e) 0
 
-first_found : (ps : List ℤ) (count : ℕ) (w : List ℕ) (t : ℕ) {e : ℕ} → First (point ps) (rank ps) (net_of w count) t e → e < 3 → Found ps count w t e
+pub first_low : {P : ℕ → Pt ℤ} {rk : ℕ → ℕ} {m : Net} {t e : ℕ} → First P rk m t (Some e) → e < 3
+first_low (edge e g b u n) = b
+
+first_found : (ps : List ℤ) (count : ℕ) (w : List ℕ) (t : ℕ) {e : ℕ} → First (point ps) (rank ps) (net_of w count) t (Some e) → Found ps count w t e
 unfolding net_of cell
-first_found ps count w t (edge e g b u n) l =
+first_found ps count w t (edge e g b u n) =
     let i : get_or w (16 * t + 3 + e) 0 ≡ suc g = ap (λ (x : ℕ). get_or w x 0) (let z : 16 * t + 3 + e ≡ 16 * ((3 * t + e) / 3) + 3 + (3 * t + e) % 3 = omega arith in z) ∙ u.pair in
     record { wants = subst (Wants (point ps) (rank ps) (net_of w count) (3 * t + e)) (let z : g ≡ get_or w (16 * t + 3 + e) 0 - 1 = omega arith in z) u; before = n; some = omega arith }
-first_found ps count w t (none n) l = absurd (let f : ⊥ = omega arith in f)
 
 -- ---- the loop
 
@@ -172,22 +176,21 @@ module _ {ps : List ℤ} {w₀ : List ℕ} {count many newest : ℕ} where
         pub pop_falls : left ps count w' (m - 1) < left ps count w m
         pop_falls = rw pop_net (omega arith)
 
-  module _ {w : List ℕ} {k t z : ℕ} (o : Popped ps w₀ count many newest w k t z) {e : ℕ} (f : First (point ps) (rank ps) (net_of w count) t e) where
+  module _ {w : List ℕ} {k t z : ℕ} (o : Popped ps w₀ count many newest w k t z) where
     -- ---- none of its edges flips
 
-    pub live_stay : 3 ≤ e → Live ps w₀ count many newest w k z
-    live_stay l = record { ready = o.ready; kept = o.kept; above = o.above; suspects = o.suspects; low = o.low; goes = λ m' z' g. o.goes m' z' (Legal.stay quiet g) }
+    pub live_stay : First (point ps) (rank ps) (net_of w count) t None → Live ps w₀ count many newest w k z
+    live_stay f = record { ready = o.ready; kept = o.kept; above = o.above; suspects = o.suspects; low = o.low; goes = λ m' z' g. o.goes m' z' (Legal.stay quiet g) }
       where
-        rests : {x : ℕ} → First (point ps) (rank ps) (net_of w count) t x → 3 ≤ x → (h g : ℕ) → h / 3 ≡ t → ¬ Wants (point ps) (rank ps) (net_of w count) h g
-        rests (edge x g b u n) l = absurd (let z : ⊥ = omega arith in z)
-        rests (none n) l = n
+        rests : First (point ps) (rank ps) (net_of w count) t None → (h g : ℕ) → h / 3 ≡ t → ¬ Wants (point ps) (rank ps) (net_of w count) h g
+        rests (none n) = n
 
         quiet : (h g : ℕ) → h < 3 * (net_of w count).tris → h / 3 ≡ t → ¬ Wants (point ps) (rank ps) (net_of w count) h g
-        quiet h g b i = rests f l h g i
+        quiet h g b i = rests f h g i
 
     -- ---- an edge flips
 
-    module _ (el : e < 3) where
+    module _ {e : ℕ} (f : First (point ps) (rank ps) (net_of w count) t (Some e)) where
       abbrev h : ℕ
       h = 3 * t + e
 
@@ -201,13 +204,13 @@ module _ {ps : List ℤ} {w₀ : List ℕ} {count many newest : ℕ} where
       net = net_of w count
 
       found : Found ps count w t e
-      found = first_found ps count w t f el
+      found = first_found ps count w t f
 
       wants : Wants (point ps) (rank ps) net h g
       wants = found.wants
 
       hb : h < 3 * count
-      hb = let l = o.slot in omega arith
+      hb = let l = o.slot in let el = first_low f in omega arith
 
       gb : g < 3 * count
       unfolding net_of
@@ -220,7 +223,7 @@ module _ {ps : List ℤ} {w₀ : List ℕ} {count many newest : ℕ} where
       found_low = (hb, gb)
 
       slot : h / 3 ≡ t
-      slot = omega arith
+      slot = let el = first_low f in omega arith
 
       apart : ¬ (t ≡ g / 3)
       unfolding net_of

@@ -30,11 +30,11 @@ pub fn legalize_suspects(
 {
     let mut m = many;
     let mut z = newest;
+    // This is a `while` that counts by hand: a turn takes one suspect, and may bring two back.
     while 0 < m {
         let t = suspects::pop(work, count, m);
         m -= 1;
-        let e = wants::first_edge(points, work, count, t);
-        if e < 3 {
+        if let Some(e) = wants::first_edge(points, work, count, t) {
             let g = work[16 * t + 3 + e] as usize - 1;
             steps::flip(work, count, 3 * t + e, g);
             let n = g / 3;

@@ -1,5 +1,5 @@
 -- What the filter's tests tell of its answer, and the float formulas on whole coordinates. Assumes nothing.
-use Rattle.std.proofs.Common.{◌≡◌, ℕ, zero, suc, ◌+◌, ◌*◌, ◌^◌, ◌≤◌, true, false, ℤ, pos, negsuc, ◌-ℤ◌, ◌*ℤ◌, nat_abs, sym, refl, ap, ◌∙◌, le_trans, add-le-add, mul-le-mul_right, mul-le-mul_left, arith, lit≤}
+use Rattle.std.proofs.Common.{Some, None, ◌≡◌, ℕ, zero, suc, ◌+◌, ◌*◌, ◌^◌, ◌≤◌, true, false, ℤ, pos, negsuc, ◌-ℤ◌, ◌*ℤ◌, nat_abs, sym, refl, ap, ◌∙◌, le_trans, add-le-add, mul-le-mul_right, mul-le-mul_left, arith, lit≤}
 use lib.Ieee.{Float, fin, binary64, add, sub, mul, le, lt}
 use lib.Ieee.Scale.{finite}
 use Rattle.algebra.proofs.Size.{abs_sub}
@@ -12,30 +12,29 @@ use Rattle.floats.proofs.Half.{Low, normal, not_normal, finite_is, low_below, lo
 use Rattle.signs.specs.Signs.{sign_z, sign_f}
 use Rattle.float_signs.specs.Filter.{WholePoint, certified, decided, orient_filter, det_left, det_right, circle_f}
 use Rattle.float_signs.specs.declared.Vec2.{Vec2}
-use Rattle.float_signs.specs.declared.Filtered.TheVariants.{Sure, Unsure}
 use Rattle.signs.proofs.Signed.{sign_is}
 
 module _ (k det p : Float) where
-  pub small : le min_positive p ≡ false → Unsure ≡ certified k det p
+  pub small : le min_positive p ≡ false → None ≡ certified k det p
   unfolding certified
   small h = rw h
 
-  pub infinite : le min_positive p ≡ true → finite p ≡ false → Unsure ≡ certified k det p
+  pub infinite : le min_positive p ≡ true → finite p ≡ false → None ≡ certified k det p
   unfolding certified
   infinite h i = rw (h, i)
 
-  pub near : le min_positive p ≡ true → finite p ≡ true → lt (mul binary64 k p) (abs_f det) ≡ false → Unsure ≡ certified k det p
+  pub near : le min_positive p ≡ true → finite p ≡ true → lt (mul binary64 k p) (abs_f det) ≡ false → None ≡ certified k det p
   unfolding certified
   near h i j = rw (h, i, j)
 
-  pub far : le min_positive p ≡ true → finite p ≡ true → lt (mul binary64 k p) (abs_f det) ≡ true → Sure (sign_f det) ≡ certified k det p
+  pub far : le min_positive p ≡ true → finite p ≡ true → lt (mul binary64 k p) (abs_f det) ≡ true → Some (sign_f det) ≡ certified k det p
   unfolding certified
   far h i j = rw (h, i, j)
 
 -- ---- the filter on whole numbers
-sure : (k det p : Float) (Z : ℤ) (z n : ℕ) → Is det Z → Is p (pos (suc n)) → nat_abs Z ≡ suc z → Low (mul binary64 k p) → certified k det p ≡ Sure (sign_z Z)
+sure : (k det p : Float) (Z : ℤ) (z n : ℕ) → Is det Z → Is p (pos (suc n)) → nat_abs Z ≡ suc z → Low (mul binary64 k p) → certified k det p ≡ Some (sign_z Z)
 sure k det p Z z n d i h b =
-    sym (far k det p (normal p n i) (finite_is p (pos (suc n)) i) (low_below (mul binary64 k p) det Z z b d h)) ∙ ap Sure (sign_is det Z d)
+    sym (far k det p (normal p n i) (finite_is p (pos (suc n)) i) (low_below (mul binary64 k p) det Z z b d h)) ∙ ap Some (sign_is det Z d)
 
 pub certified_exact : (K E : ℕ) (det p : Float) (Z : ℤ) (P : ℕ) → Is det Z → Is p (pos P) → nat_abs Z ≤ P → K * P * 2 ≤ 2 ^ suc E → certified (fin false K (negsuc E)) det p ≡ decided Z
 unfolding decided

@@ -1,3 +1,4 @@
 mod Coordinate
 mod Mantissa
 mod Filtering
+mod Library

@@ -1,5 +1,5 @@
 -- A float's odd mantissa and exponent, from its bit pattern. Assumes nothing.
-use Rattle.std.proofs.Common.{◌≡◌, ℕ, zero, suc, ◌+◌, ◌-◌, ◌*◌, ◌/◌, ◌%◌, ◌^◌, ◌<◌, ◌≤◌, Bool, true, false, cond, not, ◌&&◌, T, eqb, ltb, leb, ℤ, pos, negsuc, ◌-ℤ◌, sym, refl, ap, ◌∙◌, subst, inl, inr, true≢false, le_trans, le_of_eq, lt_of_lt_of_le, lt_irrefl, mod-lt, zero-lt-suc, mul_comm, pow-suc, arith, lit≤, eqb→eq, ltb→lt, nltb→le, pow_pos, pow_mono, lt-ltb, eqb-true, le-leb}
+use Rattle.std.proofs.Common.{Option, Some, None, ◌≡◌, ℕ, zero, suc, ◌+◌, ◌-◌, ◌*◌, ◌/◌, ◌%◌, ◌^◌, ◌<◌, ◌≤◌, Bool, true, false, cond, not, ◌&&◌, T, eqb, ltb, leb, ℤ, pos, negsuc, ◌-ℤ◌, sym, refl, ap, ◌∙◌, subst, inl, inr, true≢false, le_trans, le_of_eq, lt_of_lt_of_le, lt_irrefl, mod-lt, zero-lt-suc, mul_comm, pow-suc, arith, lit≤, eqb→eq, ltb→lt, nltb→le, pow_pos, pow_mono, lt-ltb, eqb-true, le-leb}
 use native.Mathlib.Decide.{le_ind}
 use mathlib.Core.Bool.{false≢true}
 use lib.IntN.{sub_ℕ}
@@ -14,9 +14,8 @@ use borrow.Author.Tests.{lt-leb, eqb-false}
 use Rattle.floats.specs.Whole.{signed}
 use Rattle.floats.proofs.Zero.{O, below_zero, equal_zero, one_zero, big}
 use Rattle.floats.proofs.Exact.{abs_signed}
-use Rattle.float_signs.specs.Parts.{decomp_of, Reduced}
+use Rattle.float_signs.specs.Parts.{dyadic, decomp_of, Reduced}
 use Rattle.float_signs.specs.declared.Dyadic.{Dyadic}
-use Rattle.float_signs.specs.declared.Dyadic.TheVariants.{Parts, NotFinite}
 
 -- ---- a count of trailing zeros is the same at each width that holds the number
 half_pos : (n : ℕ) → 0 < n → n % 2 ≡ 0 → 0 < n / 2
@@ -53,10 +52,10 @@ minus_is a = go (ltb a 1074) refl (ltb→lt a 1074) (nltb→le a 1074)
     go true e f g = rw (e, lt-leb 1074 a (f tt))
     go false e f g = rw (e, le-leb 1074 a (g tt))
 
-pub parts_are : (s : Bool) (q k : ℕ) → 0 < q → q < 2 ^ 53 → Parts (signed s (q / 2 ^ count_trailing_zeros 64 q)) (pos (k + count_trailing_zeros 64 q) -ℤ pos 1074) ≡ decomp_of (odd 53 s q k 1074)
+pub parts_are : (s : Bool) (q k : ℕ) → 0 < q → q < 2 ^ 53 → Some (dyadic (signed s (q / 2 ^ count_trailing_zeros 64 q)) (pos (k + count_trailing_zeros 64 q) -ℤ pos 1074)) ≡ decomp_of (odd 53 s q k 1074)
 unfolding decomp_of
 parts_are s q k h l =
-    ap (Parts (signed s (q / 2 ^ count_trailing_zeros 64 q))) (minus_is (k + count_trailing_zeros 64 q)) ∙ sym (ap decomp_of (odd_is s q k (count_trailing_zeros 64 q) h (sym (tz_same q h l))))
+    ap (λ (e : ℤ). Some (dyadic (signed s (q / 2 ^ count_trailing_zeros 64 q)) e)) (minus_is (k + count_trailing_zeros 64 q)) ∙ sym (ap decomp_of (odd_is s q k (count_trailing_zeros 64 q) h (sym (tz_same q h l))))
 
 -- ---- a finite float that is not zero, by its bits
 sign_of : (v : Float) (s : Bool) (m : ℕ) (e : ℤ) → v ≡ fin s m e → eq v O ≡ false → lt v O ≡ s
@@ -124,23 +123,23 @@ sub_small a h = go (ltb a 1074)
     go false = omega arith
 
 -- the other answers
-pub infinite : (v : Float) → finite v ≡ false → NotFinite ≡ decomp_of v
+pub infinite : (v : Float) → finite v ≡ false → None ≡ decomp_of v
 unfolding decomp_of
 infinite nan h = refl
 infinite (inf s) h = refl
 infinite (fin s m e) h = absurd (true≢false h)
 
 -- a float's parts with another sign
-abbrev with_sign : Bool → Float → Dyadic
-with_sign s nan = NotFinite
-with_sign s (inf t) = NotFinite
-with_sign s (fin t m e) = Parts (signed s m) e
+abbrev with_sign : Bool → Float → Option Dyadic
+with_sign s nan = None
+with_sign s (inf t) = None
+with_sign s (fin t m e) = Some (dyadic (signed s m) e)
 
-no_sign : (s : Bool) → Parts (pos 0) (pos 0) ≡ Parts (signed s 0) (pos 0)
+no_sign : (s : Bool) → Some (dyadic (pos 0) (pos 0)) ≡ Some (dyadic (signed s 0) (pos 0))
 no_sign true = refl
 no_sign false = refl
 
-pub zeros : (v : Float) → T (fits binary64 v) → eq v O ≡ true → Parts (pos 0) (pos 0) ≡ decomp_of v
+pub zeros : (v : Float) → T (fits binary64 v) → eq v O ≡ true → Some (dyadic (pos 0) (pos 0)) ≡ decomp_of v
 unfolding decomp_of eq
 zeros nan t h = absurd (false≢true h)
 zeros (inf s) t h = absurd (false≢true h)
@@ -159,9 +158,9 @@ reduced nan t = tt
 reduced (inf s) t = tt
 reduced (fin s zero e) t = inr (sym (ap zero_part (no_sign s)), plain e (eqb→eq (up e * down e) 1 t))
   where
-    zero_part : Dyadic → ℤ
-    zero_part (Parts m e) = m
-    zero_part NotFinite = pos 0
+    zero_part : Option Dyadic → ℤ
+    zero_part (Some d) = d.mantissa
+    zero_part None = pos 0
 
     plain : (e : ℤ) → up e * down e ≡ 1 → e ≡ pos 0
     plain (pos zero) h = refl

@@ -1,15 +1,14 @@
 -- The float formulas of the original, operation by operation in the library's account of IEEE 754, and what they are held to on whole
 -- coordinates. Definitions, and what the error bound computes to.
-use Rattle.std.specs.Prelude.{◌≡◌, ℕ, zero, suc, ◌≤◌, false, cond, ◌&&◌, ℤ, pos, negsuc, unsigned_abs, refl, Float}
+use Rattle.std.specs.Prelude.{◌≡◌, ℕ, zero, suc, ◌≤◌, false, cond, ◌&&◌, ℤ, pos, negsuc, unsigned_abs, refl, Float, Option, Some, None}
 use Rattle.std.specs.Float.{fin, binary64}
 use Rattle.std.specs.Float.Ieee.{add, sub, mul, le, lt}
 use Rattle.std.specs.Float.Ieee.Scale.{finite}
 use Rattle.plane.specs.Points.{Pt}
 use Rattle.floats.specs.Whole.{Is, abs_f, min_positive}
 use Rattle.signs.specs.Signs.{sign_z, sign_f, number}
+use Rattle.signs.specs.declared.Sign.{Sign}
 use Rattle.float_signs.specs.declared.Vec2.{Vec2}
-use Rattle.float_signs.specs.declared.Filtered.{Filtered}
-use Rattle.float_signs.specs.declared.Filtered.TheVariants.{Sure, Unsure}
 
 abbrev pub vec : Float → Float → Vec2
 vec x y = record { x = x; y = y }
@@ -22,15 +21,15 @@ pub record WholePoint (k : ℕ) (v : Vec2) (p : Pt ℤ) : Type 0 where
   pub in_y : unsigned_abs p.y ≤ k
 
 -- a sign exactly if z is not zero, and then its sign
-unfoldable pub decided : ℤ → Filtered
-decided (pos zero) = Unsure
-decided (pos (suc n)) = Sure (sign_z (pos (suc n)))
-decided (negsuc n) = Sure (sign_z (negsuc n))
+unfoldable pub decided : ℤ → Option Sign
+decided (pos zero) = None
+decided (pos (suc n)) = Some (sign_z (pos (suc n)))
+decided (negsuc n) = Some (sign_z (negsuc n))
 
 -- an answer as a number: a sign's, or 2
-abbrev pub filter_number : Filtered → ℤ
-filter_number (Sure s) = number s
-filter_number Unsure = pos 2
+abbrev pub filter_number : Option Sign → ℤ
+filter_number (Some s) = number s
+filter_number None = pos 2
 
 -- ---- the filter of orient2d
 
@@ -47,9 +46,9 @@ ccw_is = refl
 
 -- what the filter answers of a determinant and a permanent: the determinant's sign where the permanent is normal and finite and the
 -- determinant's size is above k times the permanent; else none
-unfoldable pub certified : Float → Float → Float → Filtered
+unfoldable pub certified : Float → Float → Float → Option Sign
 unfolding abs_f sign_f
-certified k det p = cond (le min_positive p && finite p && lt (mul binary64 k p) (abs_f det)) (Sure (sign_f det)) Unsure
+certified k det p = cond (le min_positive p && finite p && lt (mul binary64 k p) (abs_f det)) (Some (sign_f det)) None
 
 abbrev pub det_left : Vec2 → Vec2 → Vec2 → Float
 det_left a b c = mul binary64 (sub binary64 a.x c.x) (sub binary64 b.y c.y)
@@ -57,7 +56,7 @@ det_left a b c = mul binary64 (sub binary64 a.x c.x) (sub binary64 b.y c.y)
 abbrev pub det_right : Vec2 → Vec2 → Vec2 → Float
 det_right a b c = mul binary64 (sub binary64 a.y c.y) (sub binary64 b.x c.x)
 
-unfoldable pub orient_filter : Vec2 → Vec2 → Vec2 → Filtered
+unfoldable pub orient_filter : Vec2 → Vec2 → Vec2 → Option Sign
 unfolding certified abs_f
 orient_filter a b c =
     certified ccw_bound (sub binary64 (det_left a b c) (det_right a b c)) (add binary64 (abs_f (det_left a b c)) (abs_f (det_right a b c)))

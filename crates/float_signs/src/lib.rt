@@ -6,10 +6,9 @@
 
 ghost use Rattle.std.specs.Prelude.{◌≡◌, ℕ, ◌<◌, ℤ};
 ghost use Rattle.std.specs.Float.Ieee.{odd};
-ghost use Rattle.std.specs.Float.Ieee.Scale.{finite};
 ghost use Rattle.plane.specs.Points.{Pt};
 ghost use Rattle.plane.specs.Determinants.{orient, incircle};
-ghost use Rattle.floats.specs.Whole.{Is, abs_f};
+ghost use Rattle.floats.specs.Whole.{Is};
 ghost use Rattle.float_signs.specs.Intake.{intake_of, point_intake_of};
 ghost use Rattle.float_signs.specs.Parts.{decomp_of, Reduced};
 ghost use Rattle.float_signs.specs.Filter.{WholePoint, certified, orient_filter, circle_f, decided};
@@ -25,28 +24,9 @@ pub struct Vec2 {
     pub y: f64,
 }
 
-// Rust's `abs`: the sign is cleared, that of a zero too.
-fn abs(x: f64) -> f64
-    ensures { result ≡ abs_f x }
-{
-    if x < 0.0 {
-        -x
-    } else if x == 0.0 {
-        0.0
-    } else {
-        x
-    }
-}
-
-// Rust's `is_finite`: an infinity or a NaN less itself is a NaN, and any other float less itself is zero.
-fn is_finite(x: f64) -> bool
-    ensures { result ≡ finite x }
-{
-    x - x == 0.0
-}
-
 // What the intake of one coordinate answers; a refusal carries the offending float back.
-#[derive(Drop)]
+// Document 01, "Where each language form goes", names this enum.
+#[derive(Clone, Copy, Debug)]
 pub enum Intake {
     Whole(i32),
     NotFinite(f64),
@@ -57,11 +37,8 @@ pub enum Intake {
 pub fn take_in(x: f64) -> Intake
     ensures { result ≡ intake_of x }
 {
-    if is_finite(x) {
-        if x > FLOAT_LIMIT {
-            return Intake::TooLarge(x);
-        }
-        if x < -FLOAT_LIMIT {
+    if x.is_finite() {
+        if x > FLOAT_LIMIT || x < -FLOAT_LIMIT {
             return Intake::TooLarge(x);
         }
         let t = std::num::truncating_f64_to_i64(x);
@@ -77,7 +54,8 @@ pub fn take_in(x: f64) -> Intake
 }
 
 // What the intake of a point answers: both coordinates, or the refusal of the first that fails, x before y.
-#[derive(Drop)]
+// It has the cases of the intake of a coordinate, which document 01 names.
+#[derive(Clone, Copy, Debug)]
 pub enum PointIntake {
     Whole(i32, i32),
     NotFinite(f64),
@@ -105,80 +83,82 @@ pub fn take_in_point(p: Vec2) -> PointIntake
     }
 }
 
-// A finite float is m · 2^e, with an odd m, or m = 0 and e = 0.
-#[derive(Drop)]
-pub enum Dyadic {
-    Parts(i64, i32),
-    NotFinite,
+// A finite float is mantissa · 2^exponent, with an odd mantissa, or both are 0.
+#[derive(Clone, Copy, Debug, PartialEq, Eq)]
+pub struct Dyadic {
+    pub mantissa: i64,
+    pub exponent: i32,
 }
 
 // The parts of q · 2^(k - 1074), negative where asked.
 fn parts(negative: bool, q: u64, k: u64) -> Dyadic
     requires { (0 < q) × (q < 9007199254740992) × (k < 2046) }
-    ensures { result ≡ decomp_of (odd 53 negative q k 1074) }
+    ensures { Some result ≡ decomp_of (odd 53 negative q k 1074) }
 {
     let tz = u64::trailing_zeros(q);
     let m = (q >> tz) as i64;
     let e = ((k + (tz as u64)) as i32) - 1074;
     if negative {
-        Dyadic::Parts(-m, e)
+        Dyadic {
+            mantissa: -m,
+            exponent: e,
+        }
     } else {
-        Dyadic::Parts(m, e)
+        Dyadic {
+            mantissa: m,
+            exponent: e,
+        }
     }
 }
 
-pub fn decomp(v: f64) -> Dyadic
+pub fn decomp(v: f64) -> Option<Dyadic>
     ensures parts { result ≡ decomp_of v }
     ensures reduced { Reduced result }
 {
-    if is_finite(v) {
+    if v.is_finite() {
         if v == 0.0 {
-            return Dyadic::Parts(0, 0);
+            return Some(Dyadic {
+                mantissa: 0,
+                exponent: 0,
+            });
         }
         let bits = f64::to_bits(v);
         let biased = (bits >> 52) & 0x7ff;
         let frac = bits & 0xf_ffff_ffff_ffff;
         let negative = v < 0.0;
         if biased == 0 {
-            parts(negative, frac, 0)
+            Some(parts(negative, frac, 0))
         } else {
-            parts(negative, frac | 0x10_0000_0000_0000, biased - 1)
+            Some(parts(negative, frac | 0x10_0000_0000_0000, biased - 1))
         }
     } else {
-        Dyadic::NotFinite
+        None
     }
 }
 
-// What a filter answers: a sign that is certain, or none.
-#[derive(Drop)]
-pub enum Filtered {
-    Sure(Sign),
-    Unsure,
-}
-
-// What the static error bound certifies: the sign of det, where the permanent is normal and finite and det is larger than the bound.
-fn certify(errbound: f64, det: f64, permanent: f64) -> Filtered
+// What the static error bound certifies: the sign of det where the permanent is normal and finite and det is larger than the bound, else none.
+fn certify(errbound: f64, det: f64, permanent: f64) -> Option<Sign>
     ensures { result ≡ certified errbound det permanent }
 {
-    if permanent >= Sign::MIN_POSITIVE {
-        if is_finite(permanent) {
-            if abs(det) > errbound * permanent {
-                return Filtered::Sure(Sign::of_f64(det));
-            }
-        }
+    if permanent >= Sign::MIN_POSITIVE
+        && permanent.is_finite()
+        && det.abs() > errbound * permanent
+    {
+        Some(Sign::of_f64(det))
+    } else {
+        None
     }
-    Filtered::Unsure
 }
 
 // The filter of `orient2d`, the Rust's formula operation by operation.
-pub fn orient2d_filter(a: Vec2, b: Vec2, c: Vec2) -> Filtered
+pub fn orient2d_filter(a: Vec2, b: Vec2, c: Vec2) -> Option<Sign>
     ensures formula { result ≡ orient_filter a b c }
     ensures whole { (p q s : Pt ℤ) → WholePoint 8192 a p → WholePoint 8192 b q → WholePoint 8192 c s → result ≡ decided (orient p q s) }
 {
     let detleft = (a.x - c.x) * (b.y - c.y);
     let detright = (a.y - c.y) * (b.x - c.x);
     let det = detleft - detright;
-    let permanent = abs(detleft) + abs(detright);
+    let permanent = detleft.abs() + detright.abs();
     certify(Sign::CCW_ERRBOUND_A, det, permanent)
 }
 

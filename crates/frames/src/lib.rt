@@ -1,159 +1,102 @@
-// The numbers of a picture: where its points are, and its frame.
+// The numbers of a picture: where its points are, and its frame. The picture has the figure's own coordinates with y upwards.
 #![tactic(auto)]
 
-ghost use Rattle.std.specs.Prelude.{◌≤◌};
+ghost use Rattle.std.specs.Prelude.{◌≤◌, ◌≤ℤ◌, pos, neg_ℤ};
 
-// A coordinate and 8,192, which is not below 0. Every coordinate of a sheet is within the limit.
-fn shifted(z: i32) -> usize
-    ensures { result ≤ 16384 }
+use std::fmt;
+
+// A coordinate of the list. A sheet's list has all that are asked for, and each is within the limit.
+fn coordinate(points: &[i32], i: usize) -> i32
+    ensures { (neg_ℤ (pos 8192) ≤ℤ result) × (result ≤ℤ pos 8192) }
 {
-    if signs::within(z, 0) {
-        return pages::wide((z + 8192) as u32);
+    points.get(i).copied().unwrap_or(0).clamp(-8192, 8192)
+}
+
+// Where a point is. It is printed as `x y`, so it is no `signs::Point`, which has no text.
+#[derive(Clone, Copy, Debug, PartialEq, Eq)]
+pub struct Place {
+    pub x: i32,
+    pub y: i32,
+    ghost near_x: { (neg_ℤ (pos 8192) ≤ℤ x) × (x ≤ℤ pos 8192) },
+    ghost near_y: { (neg_ℤ (pos 8192) ≤ℤ y) × (y ≤ℤ pos 8192) },
+}
+
+impl Place {
+    pub fn of(points: &[i32], p: u32) -> Place {
+        let i = 2 * (p as usize);
+        Place {
+            x: coordinate(points, i),
+            y: coordinate(points, i + 1),
+        }
     }
-    8192
-}
 
-// Number i of the list, shifted.
-fn read(points: &[i32], i: usize) -> usize
-    ensures { result ≤ 16384 }
-{
-    if i < points.len() {
-        shifted(points[i])
-    } else {
-        8192
+    // Its y with y downwards.
+    pub fn down(self) -> i32 {
+        self.y.saturating_neg()
     }
 }
 
-pub fn x_of(points: &[i32], p: u32) -> usize
-    ensures { result ≤ 16384 }
-{
-    read(points, 2 * (p as usize))
+impl fmt::Display for Place {
+    fn fmt<W: fmt::Write>(&self, f: &mut fmt::Formatter<W>) -> fmt::Result {
+        let x = self.x;
+        let y = self.y;
+        write!(f, "{x} {y}")
+    }
 }
 
-pub fn y_of(points: &[i32], p: u32) -> usize
-    ensures { result ≤ 16384 }
-{
-    read(points, 2 * (p as usize) + 1)
+// The number n / 1,000, which is printed with three digits after the point.
+#[derive(Clone, Copy, Debug, PartialEq, Eq)]
+pub struct Thousandths(pub usize);
+
+impl fmt::Display for Thousandths {
+    fn fmt<W: fmt::Write>(&self, f: &mut fmt::Formatter<W>) -> fmt::Result {
+        let whole = self.0 / 1000;
+        let rest = self.0 % 1000;
+        write!(f, "{whole}.{rest:03}")
+    }
 }
 
-fn least(a: usize, b: usize) -> usize
-    ensures { (result ≤ a) × (result ≤ b) }
-{
-    if a < b { a } else { b }
+// The frame of the picture, which has a margin on each side: its upper left corner with y downwards, how wide and how high it is, and the same
+// in dots.
+#[derive(Clone, Copy, Debug, PartialEq, Eq)]
+pub struct Frame {
+    pub left: i64,
+    pub top: i64,
+    pub width: usize,
+    pub height: usize,
+    pub dots_wide: usize,
+    pub dots_high: usize,
+    // The size of the numbers, in thousandths: the more points, the smaller. The other sizes are parts of it.
+    pub letter: usize,
+    ghost small: { (width ≤ 100000) × (height ≤ 100000) },
 }
 
-fn most(a: usize, b: usize, limit: usize) -> usize
-    requires { (a ≤ limit) × (b ≤ limit) }
-    ensures { result ≤ limit }
-{
-    if a < b { b } else { a }
-}
-
-// How far it is from a up to b.
-fn gap(a: usize, b: usize) -> usize
-    ensures { result ≤ b }
-{
-    if a < b { b - a } else { 0 }
-}
-
-// The base holds all points, so its corners are as far out as any point.
-pub fn left(points: &[i32]) -> usize
-    ensures { result ≤ 16384 }
-{
-    let a = least(x_of(points, 0), x_of(points, 1));
-    least(a, x_of(points, 2))
-}
-
-fn right(points: &[i32]) -> usize
-    ensures { result ≤ 16384 }
-{
-    let a = most(x_of(points, 0), x_of(points, 1), 16384);
-    most(a, x_of(points, 2), 16384)
-}
-
-fn low(points: &[i32]) -> usize
-    ensures { result ≤ 16384 }
-{
-    let a = least(y_of(points, 0), y_of(points, 1));
-    least(a, y_of(points, 2))
-}
-
-fn high(points: &[i32]) -> usize
-    ensures { result ≤ 16384 }
-{
-    let a = most(y_of(points, 0), y_of(points, 1), 16384);
-    most(a, y_of(points, 2), 16384)
-}
-
-fn width(points: &[i32]) -> usize
-    ensures { result ≤ 16384 }
-{
-    gap(left(points), right(points))
-}
-
-fn height(points: &[i32]) -> usize
-    ensures { result ≤ 16384 }
-{
-    gap(low(points), high(points))
-}
-
-// The longer of the figure's two extents.
-fn extent(points: &[i32]) -> usize
-    ensures { result ≤ 16384 }
-{
-    most(width(points), height(points), 16384)
-}
-
-fn margin(points: &[i32]) -> usize
-    ensures { result ≤ 16384 }
-{
-    extent(points) / 12 + 1
-}
-
-// The size of the numbers, in thousandths: the more points, the smaller. The other sizes are parts of it.
-pub fn letter(points: &[i32]) -> usize {
-    pages::one_more(1000 * extent(points) / (24 + points.len() / 8))
-}
-
-// The frame of the picture, which has a margin on each side: how wide and how high it is, and how far the margin and its upper edge are
-// above the figure's 0.
-pub fn frame_width(points: &[i32]) -> usize
-    ensures { result ≤ 100000 }
-{
-    width(points) + 2 * margin(points)
-}
-
-pub fn frame_height(points: &[i32]) -> usize
-    ensures { result ≤ 100000 }
-{
-    height(points) + 2 * margin(points)
-}
-
-fn frame_longer(points: &[i32]) -> usize
-    ensures { result ≤ 100000 }
-{
-    most(frame_width(points), frame_height(points), 100000)
-}
-
-pub fn frame_zero(points: &[i32]) -> usize {
-    8192 + margin(points)
-}
-
-pub fn frame_top(points: &[i32]) -> usize {
-    high(points) + margin(points)
-}
-
-// The longer side of the picture takes 720 dots.
-fn dots(side: usize, longer: usize) -> usize
-    requires { side ≤ 100000 }
-{
-    if longer > 0 { 720 * side / longer } else { 720 }
-}
-
-pub fn dots_wide(points: &[i32]) -> usize {
-    dots(frame_width(points), frame_longer(points))
-}
-
-pub fn dots_high(points: &[i32]) -> usize {
-    dots(frame_height(points), frame_longer(points))
+impl Frame {
+    // The base holds all points, so its corners are as far out as any point: no two are more than 16,384 apart in x or in y. The longer
+    // side of the picture takes 720 dots.
+    pub fn of(points: &[i32]) -> Frame {
+        let a = Place::of(points, 0);
+        let b = Place::of(points, 1);
+        let c = Place::of(points, 2);
+        let left = a.x.min(b.x).min(c.x);
+        let right = a.x.max(b.x).max(c.x);
+        let low = a.y.min(b.y).min(c.y);
+        let high = a.y.max(b.y).max(c.y);
+        let wide = right.abs_diff(left).min(16384) as usize;
+        let tall = high.abs_diff(low).min(16384) as usize;
+        let extent = wide.max(tall);
+        let margin = extent / 12 + 1;
+        let width = wide + 2 * margin;
+        let height = tall + 2 * margin;
+        let longer = width.max(height);
+        Frame {
+            left: (left as i64).saturating_sub(margin as i64),
+            top: (-(high as i64)).saturating_sub(margin as i64),
+            width,
+            height,
+            dots_wide: 720 * width / longer,
+            dots_high: 720 * height / longer,
+            letter: 1000 * extent / (24 + points.len() / 8) + 1,
+        }
+    }
 }

@@ -1,36 +1,18 @@
 -- Rule 2 by the index: each edge is the last from its first end to its second. Assumes nothing.
-use mathlib.Core.Path.{◌≡◌, refl, sym, ap, ap₂, ◌∙◌, subst}
-use mathlib.Core.Bool.{Bool, true, false, not, ◌&&◌, ◌||◌, true≢false, false≢true}
+use mathlib.Core.Path.{◌≡◌, refl, sym, ap, ap₂, ◌∙◌}
+use mathlib.Core.Bool.{Bool, true, false, not, ◌||◌, true≢false, false≢true}
 use mathlib.Core.List.{List}
-use Prim.Native.Nat.{ℕ, zero, suc, ◌+◌, ◌*◌, ◌/◌, ◌%◌, ◌≤◌, ◌<◌}
-use native.Mathlib.Numerals.{add-one}
+use Prim.Native.Nat.{ℕ, zero, suc, ◌+◌, ◌*◌, ◌%◌, ◌<◌}
 use native.Mathlib.Omega.{arith}
-use borrow.Author.Tests.{eq-eqb, ne_eqb, eqb-true, eqb-false}
+use borrow.Author.Tests.{eq-eqb, eqb-true}
 use lib.Dec.{eqb}
-use lib.ListN.{length, get_or}
-use Rattle.algebra.specs.Tests.{all_to, any_to}
-use Rattle.algebra.proofs.Tests.{by_test, and_fst, and_snd, and_both, or_true, all_of, all_at, all_fails, any_found}
+use lib.ListN.{length}
+use Rattle.algebra.specs.Tests.{all_to}
+use Rattle.algebra.proofs.Tests.{by_test, and_fst, and_snd, and_both, all_of, all_at}
 use Rattle.plane.specs.Halfedges.{nxt}
 use Rattle.tables.specs.Rules.{triples, corner, edge_is, rule2}
-use Rattle.edges.specs.Index.{last_of, last_edge, found_at}
-use Rattle.edges.specs.declared.Found.{Found}
-use Rattle.edges.specs.declared.Found.TheVariants as Found
+use Rattle.edges.specs.Index.{last_of, last_edge}
 use Rattle.edges.proofs.Last.{last_is, last_le, last_none}
-
--- ---- a search's answer
-pub is_at : (m g : ℕ) → Found.At g ≡ found_at m → m ≡ suc g
-is_at zero g e = absurd (let z : ◌≡◌ {A = ℕ} 0 1 = cc in omega arith)
-is_at (suc m) g e = let z : m ≡ g = cc in ap suc z
-
-pub is_nowhere : (m : ℕ) → Found.Nowhere ≡ found_at m → m ≡ 0
-is_nowhere zero e = refl
-is_nowhere (suc m) e = absurd (let z : ◌≡◌ {A = ℕ} 0 1 = cc in omega arith)
-
-pub eqb_one : (g h : ℕ) → eqb (suc g) (h + 1) ≡ eqb g h
-eqb_one g h = by_test (eqb g h) (λ t. let e = eqb-true g h t in eq-eqb (suc g) (h + 1) (omega arith) ∙ sym t) (λ t. ne_eqb (suc g) (h + 1) (λ q. eqb-false g h t (omega arith)) ∙ sym t)
-
-pub none_one : (h : ℕ) → eqb 0 (h + 1) ≡ false
-none_one h = ne_eqb 0 (h + 1) (λ q. let b : ⊥ = omega arith in b)
 
 pub not_true : (b : Bool) → not b ≡ true → b ≡ false
 not_true true h = absurd (false≢true h)
@@ -56,7 +38,7 @@ some_last f k h l t = go (last_of f k) refl
     go (suc g) e = (g, e)
 
 module _ (xs : List ℕ) (w : length xs % 3 ≡ 0) where
-  abbrev lastb : ℕ → Bool
+  abbrev pub lastb : ℕ → Bool
   lastb h = eqb (last_edge xs (corner xs h) (corner xs (nxt h)) (length xs)) (h + 1)
 
   abbrev alone : ℕ → ℕ → Bool
@@ -89,14 +71,11 @@ module _ (xs : List ℕ) (w : length xs % 3 ≡ 0) where
       let e = s.1 in
       e ∙ ap suc (unique r h s.0 l (omega arith) (last_is f (length xs) s.0 e))
 
-  pub once_fails : (h : ℕ) → h < length xs → lastb h ≡ false → false ≡ rule2 xs
-  once_fails h l t = by_test (rule2 xs) (λ r. absurd (true≢false (sym (ap (λ (m : ℕ). eqb m (h + 1)) (is_own r h l) ∙ eq-eqb (suc h) (h + 1) (omega arith)) ∙ t))) (λ r. sym r)
-
-  pub once_holds : ((h : ℕ) → h < length xs → lastb h ≡ true) → true ≡ rule2 xs
+  holds : ((h : ℕ) → h < length xs → lastb h ≡ true) → rule2 xs ≡ true
   unfolding rule2
-  once_holds r =
+  holds r =
       let e = is_three in
-      sym (all_of (λ h. all_to (3 * triples xs) (alone h)) (3 * triples xs) (λ h l. all_of (alone h) (3 * triples xs) (λ g m. one h g (omega arith) (omega arith))))
+      all_of (λ h. all_to (3 * triples xs) (alone h)) (3 * triples xs) (λ h l. all_of (alone h) (3 * triples xs) (λ g m. one h g (omega arith) (omega arith)))
     where
       last_of_lem : (h : ℕ) → h < length xs → last_edge xs (corner xs h) (corner xs (nxt h)) (length xs) ≡ h + 1
       last_of_lem h l = eqb-true (last_edge xs (corner xs h) (corner xs (nxt h)) (length xs)) (h + 1) (r h l)
@@ -109,3 +88,9 @@ module _ (xs : List ℕ) (w : length xs % 3 ≡ 0) where
           let q : g + 1 ≡ h + 1 = sym (last_of_lem g m) ∙ ap₂ (λ (u v : ℕ). last_edge xs u v (length xs)) a b ∙ last_of_lem h l in
           ap (λ (x : Bool). not x || eqb g h) t ∙ eq-eqb g h (omega arith))
           (λ t. ap (λ (x : Bool). not x || eqb g h) t)
+
+  -- each edge is the last of its kind exactly if no edge is there twice
+  pub once : all_to (length xs) lastb ≡ rule2 xs
+  once = by_test (rule2 xs)
+      (λ r. all_of lastb (length xs) (λ h l. ap (λ (m : ℕ). eqb m (h + 1)) (is_own r h l) ∙ eq-eqb (suc h) (h + 1) (omega arith)) ∙ sym r)
+      (λ r. by_test (all_to (length xs) lastb) (λ a. absurd (true≢false (sym (holds (λ h l. all_at lastb (length xs) h a l)) ∙ r))) (λ a. a ∙ sym r))

@@ -3,25 +3,28 @@ use mathlib.Core.Bool.{Bool, true, false, cond}
 use mathlib.Core.List.{List}
 use mathlib.Core.Path.{◌≡◌, refl, sym, ap, ◌∙◌}
 use Prim.Native.Nat.{ℕ, zero, suc, ◌+◌, ◌-◌, ◌*◌, ◌/◌, ◌≤◌, ◌<◌}
-use native.Mathlib.Numerals.{add-one}
 use native.Mathlib.Omega.{arith}
 use lib.IntN.{ℤ}
+use Rattle.std.specs.Option.{MatchOption}
+use Rattle.std.specs.Prelude.{Option, None, Some}
 use Rattle.plane.specs.Points.{Pt}
 use Rattle.nets.specs.Layout.{net_of, InRange}
 use Rattle.nets.specs.Location.{beyond, holds, step, over, or_else, slot_of, walk, scan, locate}
 use Rattle.nets.specs.Nets.{Net}
-use Rattle.turns.specs.Moves.{move}
-use Rattle.turns.proofs.Moves.{else_yes}
+use Rattle.turns.specs.Moves.{turn_number, move}
+use Rattle.turns.specs.Numbers.{suc_or_0}
+use Rattle.turns.specs.declared.Turn.{Turn}
+use Rattle.turns.specs.declared.Turn.TheVariants.{Here, NoWay, To}
 
 -- ---- a turn of the walk
 
-zero_true : (b : Bool) (x : ℕ) → cond b 0 (suc x) ≡ 0 → b ≡ true
-zero_true true x e = refl
-zero_true false x e = absurd (let z : ⊥ = omega arith in z)
+stays : (b : Bool) (s : ℕ) → 0 ≡ cond b 0 (suc s) → b ≡ true
+stays true s e = refl
+stays false s e = absurd (let z : ⊥ = omega arith in z)
 
-more_false : (b : Bool) (x : ℕ) → ¬ (cond b 0 (suc x) ≡ 0) → b ≡ false
-more_false true x n = absurd (n refl)
-more_false false x n = refl
+moves : (b : Bool) (s : ℕ) {n : ℕ} → suc n ≡ cond b 0 (suc s) → (b ≡ false) × (s ≡ n)
+moves true s e = absurd (let z : ⊥ = omega arith in z)
+moves false s e = (refl, omega arith)
 
 module _ (P : ℕ → Pt ℤ) (m : Net) (p : Pt ℤ) where
   from_none : (n : ℕ) → walk P m p n 0 ≡ 0
@@ -29,79 +32,68 @@ module _ (P : ℕ → Pt ℤ) (m : Net) (p : Pt ℤ) where
   from_none zero = refl
   from_none (suc n) = refl
 
-  -- a call told where the walk goes from slot t
-  module _ (t : ℕ) {to : ℕ} (e : to ≡ move P m p t) where
-    pub in_it : to ≡ 0 → holds P m p t ≡ true
+  -- a call told that slot t holds the point, or that it does not
+  module _ (t : ℕ) where
+    pub in_it : 0 ≡ move P m p t → holds P m p t ≡ true
     unfolding move
-    in_it z = zero_true (holds P m p t) (step P m p t) (sym e ∙ z)
+    in_it e = stays (holds P m p t) (step P m p t) e
 
-    pub not_in : ¬ (to ≡ 0) → holds P m p t ≡ false
+    away : {n : ℕ} → suc n ≡ move P m p t → (holds P m p t ≡ false) × (step P m p t ≡ n)
     unfolding move
-    not_in n = more_false (holds P m p t) (step P m p t) (λ z. n (e ∙ z))
+    away e = moves (holds P m p t) (step P m p t) e
 
-    to_is : ¬ (to ≡ 0) → to ≡ suc (step P m p t)
-    unfolding move
-    to_is n = e ∙ ap (λ (b : Bool). cond b 0 (suc (step P m p t))) (not_in n)
+    pub not_in : (to : Turn) → turn_number to ≡ move P m p t → ¬ (to ≡ Here) → holds P m p t ≡ false
+    not_in Here e n = absurd (n refl)
+    not_in NoWay e n = (away e).0
+    not_in (To u) e n = (away e).0
 
-    turn : (n : ℕ) → ¬ (to ≡ 0) → walk P m p (suc n) (suc t) ≡ walk P m p n (step P m p t)
-    unfolding walk
-    turn n k = ap (λ (b : Bool). cond b (suc t) (walk P m p n (step P m p t))) (not_in k)
+    -- with at most c turns in all, turn i
+    module _ (c i : ℕ) (l : i < c) where
+      turn : {n : ℕ} → suc n ≡ move P m p t → walk P m p (c - i) (suc t) ≡ walk P m p (c - (i + 1)) n
+      unfolding walk
+      turn e = let d : c - i ≡ suc (c - (i + 1)) = omega arith in rw (d, (away e).0, (away e).1)
 
-    pub here : (left : ℕ) → 0 < left → to ≡ 0 → t + 1 ≡ walk P m p left (suc t)
-    unfolding walk
-    here zero l z = absurd (let x : ⊥ = omega arith in x)
-    here (suc n) l z = rw (in_it z) (add-one t)
+      pub here : 0 ≡ move P m p t → suc t ≡ walk P m p (c - i) (suc t)
+      unfolding walk
+      here e = let d : c - i ≡ suc (c - (i + 1)) = omega arith in rw (d, in_it e)
 
-    pub ends : (left : ℕ) → 0 < left → to ≡ 1 → 0 ≡ walk P m p left (suc t)
-    ends zero l z = absurd (let x : ⊥ = omega arith in x)
-    ends (suc n) l z =
-        let k : ¬ (to ≡ 0) = omega arith in
-        let s : step P m p t ≡ 0 = omega (arith, to_is k) in
-        sym (turn n k ∙ ap (walk P m p n) s ∙ from_none n)
+      pub ends : 1 ≡ move P m p t → 0 ≡ walk P m p (c - i) (suc t)
+      ends e = sym (turn e ∙ from_none (c - (i + 1)))
 
-    pub on : (left : ℕ) → 0 < left → ¬ (to ≡ 0) → ¬ (to ≡ 1) → walk P m p (left - 1) (suc (to - 2)) ≡ walk P m p left (suc t)
-    on zero l k j = absurd (let x : ⊥ = omega arith in x)
-    on (suc n) l k j =
-        let s : suc (to - 2) ≡ step P m p t = omega (arith, to_is k) in
-        let d : suc n - 1 ≡ n = omega arith in
-        rw (d, s) (sym (turn n k))
+      pub on : {n : ℕ} → suc (suc n) ≡ move P m p t → walk P m p (c - (i + 1)) (suc n) ≡ walk P m p (c - i) (suc t)
+      on e = sym (turn e)
 
   -- there is nothing left of the walk
-  pub walk_none : (left at : ℕ) {x : ℕ} → left ≡ 0 → walk P m p left at ≡ x → 0 ≡ x
+  pub walk_none : (c i at : ℕ) → c ≤ i → 0 ≡ walk P m p (c - i) at
   unfolding walk
-  walk_none left at z e = rw z at e
+  walk_none c i at l = let z : c - i ≡ 0 = omega arith in rw z
 
   -- ---- the scan
 
-  pub scan_more : (t : ℕ) → scan P m p t ≡ 0 → holds P m p t ≡ false → scan P m p (t + 1) ≡ 0
+  scan_none : (n : ℕ) → ((k : ℕ) → k < n → holds P m p k ≡ false) → 0 ≡ scan P m p n
   unfolding scan
-  scan_more t z h = rw (add-one t, z, h)
-
-  found : (t : ℕ) → scan P m p t ≡ 0 → holds P m p t ≡ true → scan P m p (suc t) ≡ suc t
-  unfolding scan
-  found t z h = rw (z, h)
+  scan_none zero f = refl
+  scan_none (suc n) f = rw (← scan_none n (λ k l. f k (omega arith)), f n (omega arith))
 
   -- a slot that is found stays found
-  kept : (d t : ℕ) → scan P m p (suc t) ≡ suc t → scan P m p (d + suc t) ≡ suc t
+  scan_found : (d t : ℕ) → holds P m p t ≡ true → ((k : ℕ) → k < t → holds P m p k ≡ false) → suc t ≡ scan P m p (d + suc t)
   unfolding scan
-  kept zero t e = let z : 0 + suc t ≡ suc t = omega arith in rw z e
-  kept (suc d) t e = let z : suc d + suc t ≡ suc (d + suc t) = omega arith in rw (z, kept d t e)
+  scan_found zero t h f = let z : 0 + suc t ≡ suc t = omega arith in rw (z, ← scan_none t f, h)
+  scan_found (suc d) t h f = let z : suc d + suc t ≡ suc (d + suc t) = omega arith in rw (z, ← scan_found d t h f)
 
-  pub scan_found : (n t : ℕ) → t < n → scan P m p t ≡ 0 → holds P m p t ≡ true → t + 1 ≡ scan P m p n
-  scan_found n t l z h =
-      let d : n - suc t + suc t ≡ n = omega arith in
-      add-one t ∙ sym (kept (n - suc t) t (found t z h)) ∙ ap (scan P m p) d
+  pub scanned : (n : ℕ) (r : Option ℕ) → MatchOption r ((k : ℕ) → k < n → holds P m p k ≡ false) (λ t. (t < n) × (holds P m p t ≡ true) × ((k : ℕ) → k < t → holds P m p k ≡ false)) →
+      suc_or_0 r ≡ scan P m p n
+  scanned n None f = scan_none n f
+  scanned n (Some t) f = let d : n - suc t + suc t ≡ n = omega (arith, f.0) in scan_found (n - suc t) t f.1 f.2 ∙ ap (scan P m p) d
 
 -- ---- the walk, and the scan behind it
 
-module _ (P : ℕ → Pt ℤ) (w : List ℕ) (T : ℕ) (p : Pt ℤ) (z : ℕ) {f : ℕ} (e : f ≡ walk P (net_of w T) p (4 * T + 16) (suc z)) where
-  pub by_walk : ¬ (f ≡ 0) → f ≡ locate P (net_of w T) p z
+module _ (P : ℕ → Pt ℤ) (w : List ℕ) (T : ℕ) (p : Pt ℤ) (z : ℕ) where
+  pub located : (x r : Option ℕ) {A : Type 0} → suc_or_0 x ≡ walk P (net_of w T) p (4 * T + 16) (suc z) → MatchOption x A (λ t. r ≡ Some t) →
+      (A → suc_or_0 r ≡ scan P (net_of w T) p T) → suc_or_0 r ≡ locate P (net_of w T) p z
   unfolding locate net_of
-  by_walk n = rw (← e) (sym (else_yes f _ n))
-
-  pub by_scan : f ≡ 0 → {r : ℕ} → r ≡ scan P (net_of w T) p T → r ≡ locate P (net_of w T) p z
-  unfolding locate net_of
-  by_scan k h = rw (← e, k) h
+  located None r e f g = rw (← e) (g f)
+  located (Some t) r e f g = rw (f, ← e)
 
 -- ---- the slots are in range
 

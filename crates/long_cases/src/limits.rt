@@ -1,88 +1,61 @@
 // The limits of document 01 on the numbers of points and of pairs.
+ghost use Rattle.std.specs.Prelude.{◌<◌, ◌^◌};
+
+use crate::figures;
+use reports::MARK;
+use runs::Run;
 use std::io;
 
-// The mark of the lent lists, as the crate runs has it.
-const MARK: u32 = 9999;
-
 // Every pair runs from point 0 to point 1.
-fn same_pairs(pairs: &mut [u32]) {
-    let m = pairs.len() / 2;
-    for k in 0..m {
-        pairs[2 * k] = 0;
-    }
+fn same_pairs(rt: &impl Print) -> io::Result<()> {
+    let pairs = [[0, 1]; 12289];
+    let points = &[0, 0, 8, 0, 0, 8, 2, 2];
+    let most = Run {
+        name: "m = 12,288, all the same",
+        points,
+        pairs: pairs[..12288].as_flattened(),
+    };
+    let too_many = Run {
+        name: "m = 12,289",
+        points,
+        pairs: pairs.as_flattened(),
+    };
+    runs::small(rt, &[most, too_many])
 }
 
-fn most_pairs(rt: &impl Print) -> io::Result<()> {
-    let mut pairs = [1u32; 24576];
-    same_pairs(&mut pairs);
-    runs::small(
-        rt,
-        b"m = 12,288, all the same",
-        &[0i32, 0, 8, 0, 0, 8, 2, 2],
-        &pairs,
-    )
-}
-
-fn too_many_pairs(rt: &impl Print) -> io::Result<()> {
-    let mut pairs = [1u32; 24578];
-    same_pairs(&mut pairs);
-    runs::small(rt, b"m = 12,289", &[0i32, 0, 8, 0, 0, 8, 2, 2], &pairs)
+// No pairs, and an output and a working area of these lengths, which are gone from the stack before the next case.
+#[inline(never)]
+fn bare<R: Print, const OUT: usize, const WORK: usize>(
+    rt: &R,
+    name: &str,
+    points: &[[i32; 2]],
+) -> io::Result<()>
+    requires out { OUT < 2 ^ 32 }
+    requires work { WORK < 2 ^ 32 }
+{
+    let run = Run {
+        name,
+        points: points.as_flattened(),
+        pairs: &[],
+    };
+    run.cut(rt, &mut [MARK; OUT], &mut [MARK; WORK])
 }
 
 // Point p stands at x = p, and y leaps.
-fn scatter(points: &mut [i32]) {
-    let n = points.len() / 2;
-    for p in 3..n {
+fn scattered(rt: &impl Print) -> io::Result<()> {
+    let mut points = [[0; 2]; 4097];
+    figures::put(&mut points, -1, 8192, |p| {
         let x = p % 4096;
-        points[2 * p] = x as i32;
-        points[2 * p + 1] = (x * 2503 % 4093) as i32;
-    }
-}
-
-fn most_points(rt: &impl Print) -> io::Result<()> {
-    let mut points = [-1i32; 8192];
-    points[2] = 8192;
-    points[5] = 8192;
-    scatter(&mut points);
-    let none = [0u32; 0];
-    let mut out = [MARK; 24561];
-    let mut work = [MARK; 262144];
-    runs::case(rt, b"n = 4,096", &points, &none, &mut out, &mut work)
-}
-
-fn too_many_points(rt: &impl Print) -> io::Result<()> {
-    let mut points = [-1i32; 8194];
-    points[2] = 8192;
-    points[5] = 8192;
-    scatter(&mut points);
-    let none = [0u32; 0];
-    let mut out = [MARK; 24567];
-    let mut work = [MARK; 262208];
-    runs::case(rt, b"n = 4,097", &points, &none, &mut out, &mut work)
-}
-
-fn most_points_short_work(rt: &impl Print) -> io::Result<()> {
-    let mut points = [-1i32; 8192];
-    points[2] = 8192;
-    points[5] = 8192;
-    scatter(&mut points);
-    let none = [0u32; 0];
-    let mut out = [MARK; 24561];
-    let mut work = [MARK; 262143];
-    runs::case(
-        rt,
-        b"n = 4,096, a working area of 64n - 1",
-        &points,
-        &none,
-        &mut out,
-        &mut work,
-    )
+        [x as i32, (x * 2503 % 4093) as i32]
+    });
+    let most = &points[..4096];
+    bare::<_, 24561, 262144>(rt, "n = 4,096", most)?;
+    bare::<_, 24567, 262208>(rt, "n = 4,097", &points)?;
+    let name = "n = 4,096, a working area of 64n - 1";
+    bare::<_, 24561, 262143>(rt, name, most)
 }
 
 pub fn all(rt: &impl Print) -> io::Result<()> {
-    most_pairs(rt)?;
-    too_many_pairs(rt)?;
-    most_points(rt)?;
-    too_many_points(rt)?;
-    most_points_short_work(rt)
+    same_pairs(rt)?;
+    scattered(rt)
 }

@@ -1,14 +1,13 @@
 -- The answers of the search, by what the code has read. Assumes nothing.
-use mathlib.Core.Bool.{Bool, true, false}
-use mathlib.Core.List.{List, [], ◌∷◌}
-use mathlib.Core.Logic.{◌⊎◌, inl, inr}
+use mathlib.Core.Bool.{true, false, true≢false}
+use mathlib.Core.List.{List}
+use mathlib.Core.Logic.{inl, inr}
 use mathlib.Core.Path.{◌≡◌, refl, sym, ap, ◌∙◌, subst}
 use Prim.Native.Nat.{ℕ, zero, suc, ◌+◌, ◌*◌, ◌/◌, ◌%◌, ◌≤◌, ◌<◌}
 use native.Mathlib.Decide.{ℕ_discrete}
 use native.Mathlib.Omega.{arith}
 use lib.IntN.{ℤ, neg_ℤ}
 use lib.ListN.{length, get_or}
-use Rattle.algebra.specs.Order.{Pos}
 use Rattle.algebra.specs.Tests.{posb}
 use Rattle.plane.specs.Determinants.{orient}
 use Rattle.plane.specs.Halfedges.{nxt}
@@ -21,14 +20,9 @@ use Rattle.nets.specs.Nets.{Net, dst, prv}
 use Rattle.nets.specs.Tilings.{Tiling}
 use Rattle.nets.proofs.Slot.{nxt_in, nxt_three}
 use Rattle.chains.specs.Sticking.{Leaves}
-use Rattle.looks.specs.Around.{Ranged, Between, Names, Told, Passed, Neither, Starts}
-use denote.Enum.Declared.{tag_of}
-use types.Run.{OneOf}
-use Rattle.looks.specs.contracts.Around.{the_type}
+use Rattle.looks.specs.Around.{Ranged, Between, Names, Passed, Neither, Starts, Told}
 use Rattle.looks.specs.declared.Around.{Around}
-use Rattle.looks.specs.declared.Around.TheVariants.{Edge, Entry, Nothing}
-use Rattle.looks.specs.declared.Found.{Found}
-use Rattle.looks.specs.declared.Found.TheVariants.{At, Nowhere}
+use Rattle.std.specs.Prelude.{Option, Some, None}
 
 -- ---- half-edges by slot and edge
 
@@ -73,91 +67,86 @@ module _ (w : List ℕ) (T h : ℕ) where
   unfolding net_of
   before_adj = read (place 3 (h / 3) ((h % 3 + 2) % 3) (prv h) (omega arith) (before_is h))
 
--- ---- an answer that names something means the same whatever `Nothing` means
+-- ---- an answer that names something means the same whatever `None` means
 
-pub named : (N O : Type 0) (P : ℕ → Pt ℤ) (m : Net) (a b : ℕ) (o : Around) → ¬ (o ≡ Nothing) → Told N P m a b o → Told O P m a b o
-named N O P m a b (Edge t e) k x = x
-named N O P m a b (Entry t e) k x = x
-named N O P m a b Nothing k x = absurd (k refl)
+pub named : (N O : Type 0) (P : ℕ → Pt ℤ) (m : Net) (a b : ℕ) (o : Option Around) → ¬ (o ≡ None) → Told N P m a b o → Told O P m a b o
+named N O P m a b (Some r) k x = x
+named N O P m a b None k x = absurd (k refl)
 
--- ---- one half-edge: p, u and v were read as its start, its end and the third corner
+-- ---- one half-edge
 
-module _ (P : ℕ → Pt ℤ) (w : List ℕ) (T a b h : ℕ) {p : ℕ} (at_p : p ≡ get_or w (16 * (h / 3) + h % 3) 0) where
+module _ (P : ℕ → Pt ℤ) (w : List ℕ) (T a b h : ℕ) where
   abbrev m : Net
   m = net_of w T
 
+  -- its start, its end and the third corner, as the code reads them
+  abbrev p : ℕ
+  p = get_or w (16 * (h / 3) + h % 3) 0
+
+  abbrev u : ℕ
+  u = get_or w (16 * (h / 3) + (h % 3 + 1) % 3) 0
+
+  abbrev v : ℕ
+  v = get_or w (16 * (h / 3) + (h % 3 + 2) % 3) 0
+
   pub elsewhere : ¬ (p ≡ a) → Passed P m a b h
   elsewhere n =
-      let k : ¬ (m.org h ≡ a) = λ e. n (at_p ∙ org_is w T h ∙ e) in
+      let k : ¬ (m.org h ≡ a) = λ e. n (org_is w T h ∙ e) in
       record { to = λ e. absurd (k e); from = λ e. absurd (k e); across = λ e. absurd (k e) }
 
-  module _ (l : h < 3 * T) (here : p ≡ a) {u v : ℕ}
-      (at-u : u ≡ get_or w (16 * (h / 3) + (h % 3 + 1) % 3) 0) (at-v : v ≡ get_or w (16 * (h / 3) + (h % 3 + 2) % 3) 0) where
+  module _ (l : h < 3 * T) (here : p ≡ a) where
     starts : m.org h ≡ a
-    starts = sym (org_is w T h) ∙ sym at_p ∙ here
+    starts = sym (org_is w T h) ∙ here
 
-    ends : u ≡ m.org (nxt h)
-    ends = at-u ∙ next_org w T h
+    back : dst m (prv h) ≡ a
+    back = ap m.org (nxt_three h) ∙ starts
 
-    third : v ≡ m.org (prv h)
-    third = at-v ∙ before_org w T h
-
-    low : h / 3 < T
-    low = omega arith
-
-    pub to_b : u ≡ b → Names m (Between m a b) (h / 3) (h % 3)
+    pub to_b : u ≡ b → Names m (Between m a b) h
     unfolding net_of
-    to_b e = (low, omega arith, subst (Between m a b) (sym (whole h)) (inl (starts, sym ends ∙ e)))
+    to_b e = (l, inl (starts, sym (next_org w T h) ∙ e))
 
-    pub from_b : v ≡ b → Names m (Between m a b) (h / 3) ((h % 3 + 2) % 3)
+    pub from_b : v ≡ b → Names m (Between m a b) (3 * (h / 3) + (h % 3 + 2) % 3)
     unfolding net_of
-    from_b e =
-        let back : dst m (prv h) ≡ a = ap m.org (nxt_three h) ∙ starts in
-        (low, omega arith, subst (Between m a b) (sym (before_is h)) (inr (sym third ∙ e, back)))
+    from_b e = (omega arith, subst (Between m a b) (sym (before_is h)) (inr (sym (before_org w T h) ∙ e, back)))
 
-    module _ {r : Bool} (at-r : r ≡ posb (neg_ℤ (orient (P a) (P b) (P u)))) where
-      pub not_right : ¬ (u ≡ b) → ¬ (v ≡ b) → r ≡ false → Passed P m a b h
-      not_right nu nv f = record {
-        to = λ _ e. nu (ends ∙ e);
-        from = λ _ e. nv (third ∙ e);
-        across = λ _ x. let y = posb_yes (neg_ℤ (orient (P a) (P b) (P u))) (rw ends x.right) in let z : ◌≡◌ {A = ℕ} 0 1 = cc in let o : ⊥ = omega arith in o;
-      }
-
-      module _ {s : Bool} (at-s : s ≡ posb (orient (P a) (P b) (P v))) where
-        pub not_left : ¬ (u ≡ b) → ¬ (v ≡ b) → s ≡ false → Passed P m a b h
-        not_left nu nv f = record {
-          to = λ _ e. nu (ends ∙ e);
-          from = λ _ e. nv (third ∙ e);
-          across = λ _ x. let y = posb_yes (orient (P a) (P b) (P v)) (rw third x.left) in let z : ◌≡◌ {A = ℕ} 0 1 = cc in let o : ⊥ = omega arith in o;
+    pub enters : posb (neg_ℤ (orient (P a) (P b) (P u))) ≡ true → posb (orient (P a) (P b) (P v)) ≡ true
+        → Names m (Leaves P m a b) (3 * (h / 3) + (h % 3 + 1) % 3)
+    unfolding net_of
+    enters r s = (omega arith, subst (Leaves P m a b) (sym (next_is h)) entry)
+      where
+        entry : Leaves P m a b (nxt h)
+        entry = record {
+          low = nxt_in h T l;
+          far = back;
+          right = posb_pos _ (rw (next_org w T h) at r);
+          left = posb_pos _ (rw (before_org w T h) at s);
         }
 
-        pub enters : r ≡ true → s ≡ true → Names m (Leaves P m a b) (h / 3) ((h % 3 + 1) % 3)
-        unfolding net_of
-        enters yr ys = (low, omega arith, subst (Leaves P m a b) (sym (next_is h)) entry)
-          where
-            entry : Leaves P m a b (nxt h)
-            entry = record {
-              low = nxt_in h T l;
-              far = ap m.org (nxt_three h) ∙ starts;
-              right = posb_pos _ (rw ends at (sym at-r ∙ yr));
-              left = posb_pos _ (rw third at (sym at-s ∙ ys));
-            }
+  module _ (nu : ¬ (u ≡ b)) (nv : ¬ (v ≡ b)) where
+    across : ¬ Leaves P m a b (nxt h) → Passed P m a b h
+    across n = record { to = λ _ e. nu (next_org w T h ∙ e); from = λ _ e. nv (before_org w T h ∙ e); across = λ _. n }
+
+    pub not_right : posb (neg_ℤ (orient (P a) (P b) (P u))) ≡ false → Passed P m a b h
+    not_right f = across (λ x. true≢false (sym (posb_yes (neg_ℤ (orient (P a) (P b) (P u))) (rw (next_org w T h) x.right)) ∙ f))
+
+    pub not_left : posb (orient (P a) (P b) (P v)) ≡ false → Passed P m a b h
+    not_left f = across (λ x. true≢false (sym (posb_yes (orient (P a) (P b) (P v)) (rw (before_org w T h) x.left)) ∙ f))
 
 -- ---- numbers in range
 
 module _ (ps : List ℤ) (w : List ℕ) (T h : ℕ) (ranged : Ranged ps T w) (l : h < 3 * T) where
-  pub end_low : {u : ℕ} → u ≡ get_or w (16 * (h / 3) + (h % 3 + 1) % 3) 0 → u < point_count ps
-  end_low e = rw (e ∙ next_org w T h) (ranged.corners (nxt h) (nxt_in h T l))
+  pub end_low : get_or w (16 * (h / 3) + (h % 3 + 1) % 3) 0 < point_count ps
+  end_low = rw (next_org w T h) (ranged.corners (nxt h) (nxt_in h T l))
 
-  pub third_low : {v : ℕ} → v ≡ get_or w (16 * (h / 3) + (h % 3 + 2) % 3) 0 → v < point_count ps
-  third_low e = rw (e ∙ before_org w T h) (ranged.corners (prv h) (nxt_in (nxt h) T (nxt_in h T l)))
+  pub third_low : get_or w (16 * (h / 3) + (h % 3 + 2) % 3) 0 < point_count ps
+  third_low = rw (before_org w T h) (ranged.corners (prv h) (nxt_in (nxt h) T (nxt_in h T l)))
 
 module _ (w : List ℕ) (T h : ℕ) (range : InRange T w) (l : h < 3 * T) where
-  pub adj_low : {g : ℕ} → g ≡ get_or w (16 * (h / 3) + 3 + h % 3) 0 → g ≤ 3 * T
-  adj_low e = rw (e ∙ adj_is w T h) (range.partners h l)
+  pub adj_low : get_or w (16 * (h / 3) + 3 + h % 3) 0 ≤ 3 * T
+  adj_low = rw (adj_is w T h) (range.partners h l)
 
-  pub before_low : {g : ℕ} → g ≡ get_or w (16 * (h / 3) + 3 + (h % 3 + 2) % 3) 0 → g ≤ 3 * T
-  before_low e = rw (e ∙ before_adj w T h) (range.partners (prv h) (nxt_in (nxt h) T (nxt_in h T l)))
+  pub before_low : get_or w (16 * (h / 3) + 3 + (h % 3 + 2) % 3) 0 ≤ 3 * T
+  before_low = rw (before_adj w T h) (range.partners (prv h) (nxt_in (nxt h) T (nxt_in h T l)))
 
 -- ---- all half-edges
 
@@ -183,25 +172,11 @@ module _ (P : ℕ → Pt ℤ) (w : List ℕ) (T a b : ℕ) where
 
 -- ---- a corner of slot t was read
 
-module _ (w : List ℕ) (T a t : ℕ) (l : t < T) where
-  module _ (k : ℕ) (j : k < 3) where
-    starts_at : {p : ℕ} → p ≡ get_or w (16 * t + k) 0 → p ≡ a → (3 * t + k < 3 * T) × ((net_of w T).org (3 * t + k) ≡ a)
-    unfolding net_of
-    starts_at e i = (omega arith, ap (λ (c : ℕ). get_or w c 0) (let z = place 0 t k (3 * t + k) j refl in let y : cell 0 (3 * t + k) ≡ 16 * t + k = omega arith in y) ∙ sym e ∙ i)
+pub starts_at : (w : List ℕ) (T a t : ℕ) → t < T → (k : ℕ) → k < 3 → {p : ℕ} → p ≡ get_or w (16 * t + k) 0 → p ≡ a → Starts (net_of w T) a (Some (3 * t + k))
+unfolding net_of
+starts_at w T a t l k j e i = (omega arith, ap (λ (c : ℕ). get_or w c 0) (let z = place 0 t k (3 * t + k) j refl in let y : cell 0 (3 * t + k) ≡ 16 * t + k = omega arith in y) ∙ sym e ∙ i)
 
-  pub starts_0 : {p : ℕ} → p ≡ get_or w (16 * t) 0 → p ≡ a → Starts (net_of w T) a (At (3 * t))
-  unfolding net_of
-  starts_0 e i = let z : 3 * t + 0 ≡ 3 * t = omega arith in let y : 16 * t + 0 ≡ 16 * t = omega arith in rw z at (starts_at 0 (omega arith) (rw y e) i)
-
-  pub starts_1 : {p : ℕ} → p ≡ get_or w (16 * t + 1) 0 → p ≡ a → Starts (net_of w T) a (At (3 * t + 1))
-  unfolding net_of
-  starts_1 e i = starts_at 1 (omega arith) e i
-
-  pub starts_2 : {p : ℕ} → p ≡ get_or w (16 * t + 2) 0 → p ≡ a → Starts (net_of w T) a (At (3 * t + 2))
-  unfolding net_of
-  starts_2 e i = starts_at 2 (omega arith) e i
-
-pub start_low : (w : List ℕ) (T a h : ℕ) {o : Found} → o ≡ At h → Starts (net_of w T) a o → h < 3 * T
+pub start_low : (w : List ℕ) (T a h : ℕ) {o : Option ℕ} → o ≡ Some h → Starts (net_of w T) a o → h < 3 * T
 unfolding net_of
 start_low w T a h e s = (rw e at s).0
 

@@ -1,5 +1,5 @@
 -- What the search around a corner takes for granted, and what its answers mean. Definitions only.
-use Rattle.std.specs.Prelude.{List, ◌⊎◌, ◌≡◌, ℕ, ◌+◌, ◌*◌, ◌≤◌, ◌<◌, ℤ, length}
+use Rattle.std.specs.Prelude.{List, Option, Some, None, ◌⊎◌, ◌≡◌, ℕ, ◌*◌, ◌≤◌, ◌<◌, ℤ, length}
 use Rattle.plane.specs.Halfedges.{nxt}
 use Rattle.plane.specs.Points.{Pt}
 use Rattle.tables.specs.Data.{point_count}
@@ -7,9 +7,7 @@ use Rattle.nets.specs.Layout.{net_of, InRange}
 use Rattle.nets.specs.Nets.{Net, dst, prv}
 use Rattle.chains.specs.Sticking.{Leaves}
 use Rattle.looks.specs.declared.Around.{Around}
-use Rattle.looks.specs.declared.Around.TheVariants.{Edge, Entry, Nothing}
-use Rattle.looks.specs.declared.Found.{Found}
-use Rattle.looks.specs.declared.Found.TheVariants.{At, Nowhere}
+use Rattle.looks.specs.declared.Around.TheVariants.{Edge, Entry}
 
 -- the numbers of count triangles are in range, their corners are points, and each point has its place
 pub record Ranged (ps : List ℤ) (count : ℕ) (w : List ℕ) : Type 0 where
@@ -21,15 +19,19 @@ pub record Ranged (ps : List ℤ) (count : ℕ) (w : List ℕ) : Type 0 where
 abbrev pub Between : Net → ℕ → ℕ → ℕ → Type 0
 Between m a b h = ((m.org h ≡ a) × (dst m h ≡ b)) ⊎ ((m.org h ≡ b) × (dst m h ≡ a))
 
--- edge e, which is 0, 1 or 2, of slot t is such a half-edge
-abbrev pub Names : Net → (ℕ → Type 0) → ℕ → ℕ → Type 0
-Names m H t e = (t < m.tris) × (e < 3) × H (3 * t + e)
+-- half-edge h of the net is such a half-edge
+abbrev pub Names : Net → (ℕ → Type 0) → ℕ → Type 0
+Names m H h = (h < 3 * m.tris) × H h
 
--- what an answer means, where `Nothing` means N
-abbrev pub Told : Type 0 → (ℕ → Pt ℤ) → Net → ℕ → ℕ → Around → Type 0
-Told N P m a b (Edge t e) = Names m (Between m a b) t e
-Told N P m a b (Entry t e) = Names m (Leaves P m a b) t e
-Told N P m a b Nothing = N
+-- what a triangle has
+abbrev pub Shows : (ℕ → Pt ℤ) → Net → ℕ → ℕ → Around → Type 0
+Shows P m a b (Edge h) = Names m (Between m a b) h
+Shows P m a b (Entry h) = Names m (Leaves P m a b) h
+
+-- what an answer means, where none means N
+abbrev pub Told : Type 0 → (ℕ → Pt ℤ) → Net → ℕ → ℕ → Option Around → Type 0
+Told N P m a b (Some r) = Shows P m a b r
+Told N P m a b None = N
 
 -- There is neither an edge between a and b nor an entry edge. So says the search's last answer.
 pub record Neither (P : ℕ → Pt ℤ) (m : Net) (a b : ℕ) : Type 0 where
@@ -46,6 +48,6 @@ pub record Passed (P : ℕ → Pt ℤ) (m : Net) (a b h : ℕ) : Type 0 where
 pub record Open : Type 0 where
 
 -- the half-edge to start at leaves a
-abbrev pub Starts : Net → ℕ → Found → Type 0
-Starts m a (At h) = (h < 3 * m.tris) × (m.org h ≡ a)
-Starts m a Nowhere = Open
+abbrev pub Starts : Net → ℕ → Option ℕ → Type 0
+Starts m a (Some h) = (h < 3 * m.tris) × (m.org h ≡ a)
+Starts m a None = Open

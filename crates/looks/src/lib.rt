@@ -1,38 +1,28 @@
 // Step 4: what one half-edge of a triangle tells the search around a corner.
 #![tactic(auto)]
 
-ghost use Rattle.std.specs.Prelude.{◌≡◌, ◌*◌, ◌<◌, length, get_or};
+ghost use Rattle.std.specs.Prelude.{◌*◌, ◌<◌};
 ghost use Rattle.tables.specs.Data.{point_count, point};
 ghost use Rattle.nets.specs.Layout.{net_of};
 ghost use Rattle.segments.specs.Near.{Near};
 ghost use Rattle.looks.specs.Around.{Ranged, Told, Passed};
 
-// A triangle's slot and its edge 0, 1 or 2: an edge between the two points, or the entry edge; or that there is neither.
-#[derive(Drop)]
+// What a triangle has for a pair: a half-edge between the two points, or the entry edge.
+#[derive(Clone, Copy, Debug, PartialEq, Eq)]
 pub enum Around {
-    Edge(usize, usize),
-    Entry(usize, usize),
-    Nothing,
+    Edge(usize),
+    Entry(usize),
 }
-
-// The half-edge at which a search starts.
-#[derive(Drop)]
-pub enum Found {
-    At(usize),
-    Nowhere,
-}
-
-pub fn at(work: &[u32], i: usize) -> usize
-    requires { i < length work.now }
-    ensures { result ≡ get_or work.now i 0 }
-{
-    work[i] as usize
-}
-
-// ---- one triangle
 
 // What half-edge h of a triangle tells, if it leaves a: both edges of the triangle at a are tried, and the one across.
-pub fn look(points: &[i32], work: &[u32], count: usize, a: usize, b: usize, h: usize) -> Around
+pub fn look(
+    points: &[i32],
+    work: &[u32],
+    count: usize,
+    a: usize,
+    b: usize,
+    h: usize,
+) -> Option<Around>
     requires near { Near points.now }
     requires ranged { Ranged points.now count work.now }
     requires a_bound { (a < point_count points.now) × (b < point_count points.now) × (h < 3 * count) }
@@ -40,22 +30,19 @@ pub fn look(points: &[i32], work: &[u32], count: usize, a: usize, b: usize, h: u
 {
     let t = h / 3;
     let e = h % 3;
-    if at(work, 16 * t + e) != a {
-        return Around::Nothing;
+    if work[16 * t + e] as usize != a {
+        return None;
     }
-    let u = at(work, 16 * t + (e + 1) % 3);
-    let v = at(work, 16 * t + (e + 2) % 3);
+    let u = work[16 * t + (e + 1) % 3] as usize;
+    let v = work[16 * t + (e + 2) % 3] as usize;
     if u == b {
-        return Around::Edge(t, e);
+        return Some(Around::Edge(h));
     }
     if v == b {
-        return Around::Edge(t, (e + 2) % 3);
+        return Some(Around::Edge(3 * t + (e + 2) % 3));
     }
-    if segments::is_right(points, a, b, u) {
-        if segments::is_left(points, a, b, v) {
-            return Around::Entry(t, (e + 1) % 3);
-        }
-        return Around::Nothing;
+    if segments::is_right(points, a, b, u) && segments::is_left(points, a, b, v) {
+        return Some(Around::Entry(3 * t + (e + 1) % 3));
     }
-    Around::Nothing
+    None
 }

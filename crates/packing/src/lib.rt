@@ -1,4 +1,4 @@
-// An answer as one number of 64 bits: a number in the upper half, and a value in the lower one.
+// An answer as one number of 64 bits, for the C interface: a number in the upper half, and a value in the lower one.
 #![tactic(auto)]
 
 ghost use Rattle.std.specs.Prelude.{◌≡◌, ◌<◌, ◌≤◌, ◌+◌, ◌*◌};
@@ -6,7 +6,7 @@ ghost use Rattle.tables.specs.Answers.{of_refusal, of_verdict};
 ghost use Rattle.row_numbers.specs.Numbers.{value_in, place_of};
 ghost use Rattle.packing.specs.Packed.{shift, packed};
 
-use tables::{Refusal, Verdict};
+use tables::{Objection, Refusal};
 
 fn halves(number: u32, value: usize) -> u64
     requires { (number ≤ 11) × (value < shift) }
@@ -24,13 +24,13 @@ pub fn refusal(r: Refusal) -> u64
 }
 
 // 0 for yes, the number of the lowest broken rule, or a refusal's number and its place.
-pub fn verdict(answer: Verdict) -> u64
+pub fn verdict(answer: Result<(), Objection>) -> u64
     requires { value_in (of_verdict answer) < shift }
     ensures { result ≡ packed (of_verdict answer) }
 {
     match answer {
-        Verdict::Yes => 0,
-        Verdict::Breaks(rule) => rule as u64,
-        Verdict::Refused(r) => refusal(r),
+        Ok(()) => 0,
+        Err(Objection::Breaks(rule)) => rule as u64,
+        Err(Objection::Refused(r)) => refusal(r),
     }
 }

@@ -1,43 +1,27 @@
--- A search for the lowest number below n that offends, as a loop runs it: what holds on the way, at a find and at the end. The same
--- search tells whether some number offends. Assumes nothing.
-use mathlib.Core.Path.{◌≡◌, sym, ◌∙◌}
+-- The lowest number below n that offends, as `find` of a range answers it. Assumes nothing.
+use mathlib.Core.Path.{◌≡◌, sym}
 use mathlib.Core.Bool.{Bool, true, false}
-use Prim.Native.Nat.{ℕ, ◌+◌, ◌≤◌, ◌<◌}
-use native.Mathlib.Omega.{arith}
-use borrow.Author.Count.{below_none, below_more}
-use Rattle.algebra.specs.Tests.{any_to}
-use Rattle.algebra.proofs.Tests.{any_at, any_no}
+use mathlib.Core.List.{List}
+use Prim.Native.Nat.{ℕ, ◌<◌}
+use denote.Ref.{Bor}
+use denote.Param.Members.{Mut}
+use Rattle.std.specs.Prelude.{Option, Some, None}
+use Rattle.std.specs.declared.ops.Range.{Range}
+use Rattle.std.specs.Iterator.{YieldsThen}
+use Rattle.std.specs.List.{FoldsTo}
+use Rattle.std.specs.Fn.{CalledAt}
+use Rattle.std.specs.Option.{MatchOption}
+use Rattle.std.specs.Bool.{⊤}
+use Rattle.std.proofs.iter.Yields.{nat_range_steps}
+use Rattle.ranges.proofs.Tests.{first_below}
 use Rattle.tables.specs.Answers.{lowest}
-use Rattle.tables.specs.declared.Lowest.TheVariants.{At, Nowhere}
 use Rattle.tables.proofs.Table.{nowhere_lowest, at_lowest}
 
--- no number below i offends
-pub record Searched (n : ℕ) (f : ℕ → Bool) (i : ℕ) : Type 0 where
-  pub within : i ≤ n
-  pub none : (j : ℕ) → j < i → f j ≡ false
-
-pub start : (n : ℕ) (f : ℕ → Bool) → Searched n f 0
-start n f = record { within = omega arith; none = below_none (λ j. f j ≡ false) }
-
-module _ {n : ℕ} {f : ℕ → Bool} {i : ℕ} (s : Searched n f i) where
-  -- the code asked f of i, and has its answer r
-  module _ {r : Bool} (h : i < n) (e : r ≡ f i) where
-    pub more : r ≡ false → Searched n f (i + 1)
-    more g = record { within = omega arith; none = below_more (λ j. f j ≡ false) i s.none (sym e ∙ g) }
-
-    pub found : r ≡ true → At i ≡ lowest n f
-    found g = sym (at_lowest f n i h (sym e ∙ g) s.none)
-
-    pub found_any : r ≡ true → true ≡ any_to n f
-    found_any g = sym (any_at f n i h (sym e ∙ g))
-
-  -- the code has come to the end
-  module _ (h : n ≤ i) where
-    nothing : (j : ℕ) → j < n → f j ≡ false
-    nothing j l = s.none j (omega arith)
-
-    pub ended : Nowhere ≡ lowest n f
-    ended = sym (nowhere_lowest f n nothing)
-
-    pub ended_any : false ≡ any_to n f
-    ended_any = sym (any_no f n nothing)
+pub lowest_below : {F : Type 0} {n : ℕ} (u : Range ℕ) (f : F) {g : Mut F (Bor ℕ × Unit {0}) Bool} (test : ℕ → Bool) (r : Option ℕ)
+    → (xs : List ℕ) × (j : F) × YieldsThen nat_range_steps (record { start = 0; end = n }) xs r u × FoldsTo (λ p x q. CalledAt g p x false q) f xs j × MatchOption r ⊤ (λ x. (h : F) × CalledAt g j x true h)
+    → ((x : ℕ) (b : Bool) (q : F) → CalledAt g f x b q → (q ≡ f) × (b ≡ test x)) → r ≡ lowest n test
+lowest_below {n = n} u f test r d c = by r (first_below u f test r d c)
+  where
+    by : (o : Option ℕ) → MatchOption o ((k : ℕ) → k < n → test k ≡ false) (λ i. (i < n) × (test i ≡ true) × ((k : ℕ) → k < i → test k ≡ false)) → o ≡ lowest n test
+    by None h = sym (nowhere_lowest test n h)
+    by (Some i) h = sym (at_lowest test n i h.0 h.1 h.2)

@@ -13,8 +13,6 @@ ghost use Rattle.tables.specs.Data.{pair_count};
 ghost use Rattle.tables.specs.Refusals.{bad_pair, blocked, crossing};
 ghost use Rattle.pair_checks.specs.Ends.{Ends};
 
-use tables::Lowest;
-
 // ---- row 8
 
 fn is_bad(pairs: &[u32], n: usize, k: usize) -> bool
@@ -23,26 +21,14 @@ fn is_bad(pairs: &[u32], n: usize, k: usize) -> bool
 {
     let a = pairs[2 * k] as usize;
     let b = pairs[2 * k + 1] as usize;
-    if n <= a {
-        return true;
-    }
-    if n <= b {
-        return true;
-    }
-    a == b
+    n <= a || n <= b || a == b
 }
 
 // The lowest pair with an end that is no point's number, or with equal ends; n is the number of points.
-pub fn bad_pair(pairs: &[u32], n: usize) -> Lowest
+pub fn bad_pair(pairs: &[u32], n: usize) -> Option<usize>
     ensures { result ≡ lowest (pair_count pairs.now) (bad_pair n pairs.now) }
 {
-    let m = pairs.len() / 2;
-    for k in 0..m {
-        if is_bad(pairs, n, k) {
-            return Lowest::At(k);
-        }
-    }
-    Lowest::Nowhere
+    (0..pairs.len() / 2).find(|&k| is_bad(pairs, n, k))
 }
 
 // ---- row 9
@@ -55,28 +41,16 @@ fn is_blocked(points: &[i32], pairs: &[u32], k: usize) -> bool
 {
     let a = pairs[2 * k] as usize;
     let b = pairs[2 * k + 1] as usize;
-    let n = points.len() / 2;
-    for i in 0..n {
-        if crossings::in_segment(points, a, b, i) {
-            return true;
-        }
-    }
-    false
+    (0..points.len() / 2).any(|i| crossings::in_segment(points, a, b, i))
 }
 
 // The lowest pair with a point strictly inside its segment.
-pub fn blocked_pair(points: &[i32], pairs: &[u32]) -> Lowest
+pub fn blocked_pair(points: &[i32], pairs: &[u32]) -> Option<usize>
     requires near { Near points.now }
     requires ends { Ends points.now pairs.now }
     ensures { result ≡ lowest (pair_count pairs.now) (blocked points.now pairs.now) }
 {
-    let m = pairs.len() / 2;
-    for k in 0..m {
-        if is_blocked(points, pairs, k) {
-            return Lowest::At(k);
-        }
-    }
-    Lowest::Nowhere
+    (0..pairs.len() / 2).find(|&k| is_blocked(points, pairs, k))
 }
 
 // ---- row 10
@@ -89,27 +63,18 @@ fn is_crossing(points: &[i32], pairs: &[u32], k: usize) -> bool
 {
     let c = pairs[2 * k] as usize;
     let d = pairs[2 * k + 1] as usize;
-    for j in 0..k {
+    (0..k).any(|j| {
         let a = pairs[2 * j] as usize;
         let b = pairs[2 * j + 1] as usize;
-        if crossings::crosses(points, a, b, c, d) {
-            return true;
-        }
-    }
-    false
+        crossings::crosses(points, a, b, c, d)
+    })
 }
 
 // The lowest pair that properly crosses one before it.
-pub fn crossing_pair(points: &[i32], pairs: &[u32]) -> Lowest
+pub fn crossing_pair(points: &[i32], pairs: &[u32]) -> Option<usize>
     requires near { Near points.now }
     requires ends { Ends points.now pairs.now }
     ensures { result ≡ lowest (pair_count pairs.now) (crossing points.now pairs.now) }
 {
-    let m = pairs.len() / 2;
-    for k in 0..m {
-        if is_crossing(points, pairs, k) {
-            return Lowest::At(k);
-        }
-    }
-    Lowest::Nowhere
+    (0..pairs.len() / 2).find(|&k| is_crossing(points, pairs, k))
 }

@@ -1,39 +1,15 @@
--- The row of the pairs' items: how it is filled, and what it is once it is sorted. Assumes nothing.
+-- The row of the pairs' items once it is sorted. Assumes nothing.
 use mathlib.Core.List.{List}
-use mathlib.Core.Path.{◌≡◌, refl, sym, ◌∙◌}
+use mathlib.Core.Path.{◌≡◌, sym, ◌∙◌}
 use Prim.Native.Nat.{ℕ, ◌+◌, ◌*◌, ◌/◌, ◌≤◌, ◌<◌}
 use native.Mathlib.Omega.{arith}
-use borrow.Author.Count.{below_more}
 use lib.IntN.{ℤ}
 use lib.ListN.{length, get_or}
-use Rattle.sorts.specs.Items.{item, Written, Sorted}
+use Rattle.sorts.specs.Items.{item, Sorted}
 use Rattle.sorts.proofs.Rows.{carried, rising_pairs, words}
 use Rattle.rooms.specs.Rest.{Rest}
 use Rattle.tables.specs.Data.{pair_count}
 use Rattle.pair_orders.specs.Rows.{begin, stop, from, up_to, number, Filled, Row}
-
--- ---- one item more is filled in
-
-module _ (ps : List ℤ) (qs : List ℕ) (at : ℕ) where
-  pub filled_none : (w : List ℕ) → Filled ps qs at 0 w w
-  filled_none w =
-      record {
-        begins = λ k h. absurd (omega arith);
-        stops = λ k h. absurd (omega arith);
-        numbers = λ k h. absurd (omega arith);
-        below = λ p h. refl;
-        above = λ p h. refl;
-      }
-
-  pub filled_more : (k : ℕ) (w₀ w w' : List ℕ) {a b : ℕ} → Filled ps qs at k w₀ w → Written w (at + 3 * k) a b k w' → a ≡ begin ps qs k → b ≡ stop ps qs k →
-      Filled ps qs at (k + 1) w₀ w'
-  filled_more k w₀ w w' o t ea eb = record {
-    begins = below_more (λ i. from w' at i ≡ begin ps qs i) k (λ i l. t.below (at + 3 * i) (omega arith) ∙ o.begins i l) (t.first ∙ ea);
-    stops = below_more (λ i. up_to w' at i ≡ stop ps qs i) k (λ i l. t.below (at + 3 * i + 1) (omega arith) ∙ o.stops i l) (t.second ∙ eb);
-    numbers = below_more (λ i. number w' at i ≡ i) k (λ i l. t.below (at + 3 * i + 2) (omega arith) ∙ o.numbers i l) t.third;
-    below = λ p h. t.below p (omega arith) ∙ o.below p h;
-    above = λ p h. t.above p (omega arith) ∙ o.above p (omega arith);
-  }
 
 -- ---- the row once it is sorted
 

@@ -1,26 +1,16 @@
 // The pairs in the order in which they begin: each pair is an item of the ranks of its lesser and of its greater end and of its number, and
 // the items are sorted. A sweep along the points in order of rank meets the pairs in this order.
+//
+// The rows of items stay places of the lent area, three numbers each: the rule of fixed memory asks for it.
 #![tactic(auto)]
 
-ghost use Rattle.std.specs.Prelude.{◌≡◌, ◌+◌, ◌*◌, ◌≤◌, min, max, length};
+ghost use Rattle.std.specs.Prelude.{◌+◌, ◌*◌, ◌≤◌, length};
 ghost use Rattle.tables.specs.Data.{point_count, pair_count};
 ghost use Rattle.tables.specs.Figures.{Figure};
 ghost use Rattle.rooms.specs.Rest.{Rest};
 ghost use Rattle.ranks.specs.Ranked.{Ordered};
 ghost use Rattle.pair_checks.specs.Ends.{Ends};
 ghost use Rattle.pair_orders.specs.Rows.{Filled, Row};
-
-fn lesser(a: u32, b: u32) -> u32
-    ensures { result ≡ min a b }
-{
-    if a < b { a } else { b }
-}
-
-fn greater(a: u32, b: u32) -> u32
-    ensures { result ≡ max a b }
-{
-    if a < b { b } else { a }
-}
 
 // The pairs' items stand from `at` on, in the pairs' order, behind the ranks.
 fn fill(points: &[i32], pairs: &[u32], work: &mut [u32], at: usize)
@@ -29,17 +19,10 @@ fn fill(points: &[i32], pairs: &[u32], work: &mut [u32], at: usize)
     requires points_bound { (16 * point_count points.now ≤ at) × (at + 3 * pair_count pairs.now ≤ length work.old) × (pair_count pairs.now ≤ 40960) }
     ensures { Filled points.now pairs.now at (pair_count pairs.now) work.old work.new }
 {
-    let m = pairs.len() / 2;
-    let mut k = 0;
-    while k < m {
-        let a = pairs[2 * k] as usize;
-        let b = pairs[2 * k + 1] as usize;
-        let r = work[16 * a + 11];
-        let s = work[16 * b + 11];
-        let low = lesser(r, s);
-        let high = greater(r, s);
-        sorts::set_item(work, at + 3 * k, low, high, k as u32);
-        k += 1;
+    for k in 0..pairs.len() / 2 {
+        let r = work[16 * pairs[2 * k] as usize + 11];
+        let s = work[16 * pairs[2 * k + 1] as usize + 11];
+        sorts::set_item(work, at + 3 * k, (r.min(s), r.max(s), k as u32));
     }
 }
 

@@ -11,7 +11,7 @@ use borrow.Author.Tests.{leb-false}
 use Rattle.tables.specs.Answers.{lowest}
 use Rattle.tables.specs.Data.{point_count, pair_count, end_a, end_b}
 use Rattle.tables.specs.Refusals.{bad_pair}
-use Rattle.tables.specs.declared.Lowest.TheVariants.{Nowhere}
+use Rattle.std.specs.Prelude.{None}
 use Rattle.tables.proofs.Table.{or_false, lowest_nowhere}
 use Rattle.pair_checks.specs.Ends.{Ends}
 
@@ -26,7 +26,7 @@ by_halves P n e f i l = go (i % 2) refl
     go zero h = subst P (omega arith) pair.0
     go (suc r) h = subst P (omega arith) pair.1
 
-pub ends_points : (ps : List ℤ) (qs : List ℕ) → length qs % 2 ≡ 0 → lowest (pair_count qs) (bad_pair (point_count ps) qs) ≡ Nowhere → Ends ps qs
+pub ends_points : (ps : List ℤ) (qs : List ℕ) → length qs % 2 ≡ 0 → lowest (pair_count qs) (bad_pair (point_count ps) qs) ≡ None → Ends ps qs
 ends_points ps qs e none = by_halves (λ j. get_or qs j 0 < point_count ps) (length qs) e ends
   where
     ends : (k : ℕ) → k < length qs / 2 → (end_a qs k < point_count ps) × (end_b qs k < point_count ps)

@@ -13,7 +13,7 @@ ghost use Rattle.rooms.specs.Rest.{Rest};
 ghost use Rattle.pair_checks.specs.Ends.{Ends};
 ghost use Rattle.pair_rows.specs.Rows.{rows9and10};
 
-use tables::{Checked, Lowest, Refusal};
+use tables::Refusal;
 
 // Fewer pairs than these are tried each with each: to put the points in order would cost more than it saves.
 const FEW: usize = 32;
@@ -22,30 +22,29 @@ const FEW: usize = 32;
 const HELD: usize = 10;
 
 // Row 10, the last of the table, from its lowest crossing pair.
-fn row_10(crossing: Lowest) -> Checked
+fn row_10(crossing: Option<usize>) -> Result<(), Refusal>
     ensures { of_checked result ≡ row_at 10 crossing yes }
 {
     match crossing {
-        Lowest::At(k) => Checked::Refused(Refusal::CrossingPair(k)),
-        Lowest::Nowhere => Checked::Passed,
+        Some(k) => Err(Refusal::CrossingPair(k)),
+        None => Ok(()),
     }
 }
 
 // Rows 9 and 10, each with each.
-fn rows_9_and_10_each(points: &[i32], pairs: &[u32]) -> Checked
+fn rows_9_and_10_each(points: &[i32], pairs: &[u32]) -> Result<(), Refusal>
     requires near { Near points.now }
     requires ends { Ends points.now pairs.now }
     ensures { of_checked result ≡ rows9and10 points.now pairs.now }
 {
-    let blocked = pair_checks::blocked_pair(points, pairs);
-    if let Lowest::At(k) = blocked {
-        return Checked::Refused(Refusal::BlockedPair(k));
+    if let Some(k) = pair_checks::blocked_pair(points, pairs) {
+        return Err(Refusal::BlockedPair(k));
     }
     row_10(pair_checks::crossing_pair(points, pairs))
 }
 
 // Rows 9 and 10, in order of rank.
-fn rows_9_and_10_ordered(points: &[i32], pairs: &[u32], work: &mut [u32]) -> Checked
+fn rows_9_and_10_ordered(points: &[i32], pairs: &[u32], work: &mut [u32]) -> Result<(), Refusal>
     requires figure { Figure points.now }
     requires ends { Ends points.now pairs.now }
     requires points_in_bounds { (64 * point_count points.now ≤ length work.old) × (pair_count pairs.now ≤ 10 * point_count points.now) }
@@ -53,15 +52,14 @@ fn rows_9_and_10_ordered(points: &[i32], pairs: &[u32], work: &mut [u32]) -> Che
     ensures rest { Rest (64 * point_count points.now) work.old work.new }
 {
     ranks::rank_points(points, work);
-    let blocked = spans::blocked_pair(points, pairs, work);
-    if let Lowest::At(k) = blocked {
-        return Checked::Refused(Refusal::BlockedPair(k));
+    if let Some(k) = spans::blocked_pair(points, pairs, work) {
+        return Err(Refusal::BlockedPair(k));
     }
     row_10(sweeps::crossing_pair(points, pairs, work))
 }
 
 // Rows 8 to 10, for points that passed the rows above. The first 64 numbers for each point of the working area may be written.
-pub fn rows_8_to_10(points: &[i32], pairs: &[u32], work: &mut [u32]) -> Checked
+pub fn rows_8_to_10(points: &[i32], pairs: &[u32], work: &mut [u32]) -> Result<(), Refusal>
     requires figure { Figure points.now }
     requires pairs_len { (length pairs.now % 2 ≡ 0) × (64 * point_count points.now ≤ length work.old) }
     ensures result_value { of_checked result ≡ rows8to10 points.now pairs.now }
@@ -69,9 +67,8 @@ pub fn rows_8_to_10(points: &[i32], pairs: &[u32], work: &mut [u32]) -> Checked
 {
     let n = points.len() / 2;
     let m = pairs.len() / 2;
-    let bad = pair_checks::bad_pair(pairs, n);
-    if let Lowest::At(k) = bad {
-        return Checked::Refused(Refusal::BadPair(k));
+    if let Some(k) = pair_checks::bad_pair(pairs, n) {
+        return Err(Refusal::BadPair(k));
     }
     if m < FEW || HELD * n < m {
         rows_9_and_10_each(points, pairs)

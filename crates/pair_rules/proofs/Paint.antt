@@ -1,21 +1,21 @@
 -- The marks of the edges that pass a test. Assumes nothing.
-use mathlib.Core.Path.{◌≡◌, refl, sym, ap, ap₂, ◌∙◌, subst}
-use mathlib.Core.Bool.{Bool, true, false, cond, not, ◌&&◌, ◌||◌, true≢false, false≢true}
+use mathlib.Core.Path.{◌≡◌, refl, sym, ap, ◌∙◌}
+use mathlib.Core.Bool.{Bool, true, false, cond, ◌||◌}
 use mathlib.Core.List.{List}
-use Prim.Native.Nat.{ℕ, zero, suc, ◌+◌, ◌*◌, ◌%◌, ◌≤◌, ◌<◌}
+use Prim.Native.Nat.{ℕ, suc, ◌+◌, ◌*◌, ◌<◌}
 use native.Mathlib.Decide.{ℕ_discrete}
 use native.Mathlib.Numerals.{add-one}
 use native.Mathlib.Omega.{arith}
-use lib.Dec.{eqb}
-use lib.ListN.{length, get_or, set, length-set}
+use lib.ListN.{length, set, length-set}
 use lib.Seq.{get_or-set_same, get_or-set_other}
 use Rattle.algebra.specs.Tests.{any_to}
 use Rattle.algebra.proofs.Tests.{by_test}
 use Rattle.plane.specs.Halfedges.{nxt}
 use Rattle.tables.specs.Data.{pair_count, end_a, end_b}
 use Rattle.tables.specs.Rules.{corner, edge_is, is_pair, rule2}
-use Rattle.edges.specs.Index.{last_edge}
-use Rattle.edges.proofs.Last.{last_is, last_le, last_none}
+use Rattle.std.specs.Prelude.{Some, None}
+use Rattle.edges.specs.Index.{last_edge, found_at}
+use Rattle.edges.proofs.Last.{is_at, is_nowhere, last_is, last_le, last_none}
 use Rattle.list_rules.specs.Listed.{Listed, Room, Blank, Painted, Marked, mark_of}
 use Rattle.list_rules.proofs.Once.{unique_edge}
 
@@ -24,9 +24,13 @@ module _ (n : ℕ) (xs w : List ℕ) (ls : Listed n xs w) (room : Room n xs w) (
   abbrev f : ℕ → Bool
   f h = edge_is xs h u v
 
-  module _ (h : ℕ) (e : last_edge xs u v (length xs) ≡ suc h) where
+  -- the search found h
+  module _ (h : ℕ) (found : Some h ≡ found_at (last_edge xs u v (length xs))) where
+    e : last_edge xs u v (length xs) ≡ suc h
+    e = is_at (last_edge xs u v (length xs)) h found
+
     low : h < length xs
-    low = let b = last_le f (length xs) in omega arith
+    low = let b = last_le f (length xs) in let q = e in omega arith
 
     pub spot_low : 7 * n + h < length w
     spot_low = let b = low in let r = room.list in let q = room.work in omega arith
@@ -49,11 +53,11 @@ module _ (n : ℕ) (xs w : List ℕ) (ls : Listed n xs w) (room : Room n xs w) (
       above = λ p l. let b = low in get_or-set_other w (7 * n + h) p 1 0 (λ z. let k : ⊥ = omega arith in k);
     }
 
-  pub paints_none : last_edge xs u v (length xs) ≡ 0 → Painted n xs f w w
-  paints_none e = record {
+  pub paints_none : None ≡ found_at (last_edge xs u v (length xs)) → Painted n xs f w w
+  paints_none found = record {
     size = refl;
     below = λ p l. refl;
-    marks = λ g l. sym (ap (λ (b : Bool). cond b 1 (mark_of n w g)) (last_none f (length xs) g (omega arith) l));
+    marks = λ g l. let e = is_nowhere (last_edge xs u v (length xs)) found in sym (ap (λ (b : Bool). cond b 1 (mark_of n w g)) (last_none f (length xs) g (omega arith) l));
     above = λ p l. refl;
   }
 

@@ -6,21 +6,18 @@ ghost use Rattle.algebra.specs.Tests.{any_to};
 ghost use Rattle.tables.specs.Rules.{edge_is, rule2};
 ghost use Rattle.list_rules.specs.Listed.{Listed, Room, Blank, Painted, PairsMet, Ends};
 
-use edges::Found;
-
 // Whether an edge runs from u to v; it is marked.
 fn mark(list: &[u32], work: &mut [u32], n: usize, u: u32, v: u32) -> bool
     requires { Listed n list.now work.old × Room n list.now work.old × (rule2 list.now ≡ true) × (u < n) }
     ensures found { result ≡ any_to (length list.now) (λ h. edge_is list.now h u v) }
     ensures marks { Painted n list.now (λ h. edge_is list.now h u v) work.old work.new }
 {
-    let found = edges::find(list, work, n, u, v);
-    match found {
-        Found::At(h) => {
+    match edges::find(list, work, n, u, v) {
+        Some(h) => {
             work[7 * n + h] = 1;
             true
         }
-        Found::Nowhere => false,
+        None => false,
     }
 }
 
@@ -32,7 +29,7 @@ fn mark_both(list: &[u32], work: &mut [u32], n: usize, u: u32, v: u32) -> bool
 {
     let there = mark(list, work, n, u, v);
     let back = mark(list, work, n, v, u);
-    if there { true } else { back }
+    there || back
 }
 
 // Rule 6: each pair is an edge. Its edges are marked, for rule 7.
@@ -40,13 +37,10 @@ pub fn pairs_met(pairs: &[u32], list: &[u32], work: &mut [u32], n: usize) -> boo
     requires { Listed n list.now work.old × Room n list.now work.old × (rule2 list.now ≡ true) × Ends n pairs.now × Blank n list.now work.old }
     ensures { PairsMet n pairs.now list.now work.old work.new result }
 {
-    let m = pairs.len() / 2;
-    let mut k = 0;
-    while k < m {
+    for k in 0..pairs.len() / 2 {
         if !mark_both(list, work, n, pairs[2 * k], pairs[2 * k + 1]) {
             return false;
         }
-        k += 1;
     }
     true
 }

@@ -1,176 +1,123 @@
 // A picture of a sheet, in the figure's own coordinates with y upwards.
 #![tactic(auto)]
 
-use pages::Pen;
-use std::io::Write;
+use frames::{Frame, Place, Thousandths};
+use std::io::{Result, Write};
 
-// The place of a point, as `x y`.
-fn place<W: Write>(pen: &mut Pen<W>, points: &[i32], p: u32) {
-    pages::difference(pen, frames::x_of(points, p), 8192);
-    pages::byte(pen, b' ');
-    pages::difference(pen, frames::y_of(points, p), 8192);
+fn head<W: Write>(pen: &mut W, frame: &Frame) -> Result<()> {
+    let Frame {
+        left,
+        top,
+        width,
+        height,
+        dots_wide,
+        dots_high,
+        letter: _,
+    } = *frame;
+    write!(
+        pen,
+        "<svg xmlns=\"http://www.w3.org/2000/svg\" viewBox=\"{left} {top} {width} {height}\""
+    )?;
+    writeln!(pen, " width=\"{dots_wide}\" height=\"{dots_high}\">")?;
+    write!(pen, "<rect x=\"{left}\" y=\"{top}\"")?;
+    writeln!(
+        pen,
+        " width=\"{width}\" height=\"{height}\" fill=\"white\"/>"
+    )
 }
 
-// The four numbers of the frame, with what stands between them: its upper left corner, with y downwards, its width and its height.
-fn frame<W: Write>(pen: &mut Pen<W>, points: &[i32], second: &[u8], third: &[u8], fourth: &[u8]) {
-    pages::difference(pen, frames::left(points), frames::frame_zero(points));
-    pages::text(pen, second);
-    pages::difference(pen, 8192, frames::frame_top(points));
-    pages::text(pen, third);
-    pages::number(pen, frames::frame_width(points));
-    pages::text(pen, fourth);
-    pages::number(pen, frames::frame_height(points));
-}
-
-fn size<W: Write>(pen: &mut Pen<W>, points: &[i32]) {
-    pages::text(pen, b"\" width=\"");
-    pages::number(pen, frames::dots_wide(points));
-    pages::text(pen, b"\" height=\"");
-    pages::number(pen, frames::dots_high(points));
-}
-
-fn head<W: Write>(pen: &mut Pen<W>, points: &[i32]) {
-    pages::text(pen, b"<svg xmlns=\"http://www.w3.org/2000/svg\" viewBox=\"");
-    frame(pen, points, b" ", b" ", b" ");
-    size(pen, points);
-    pages::text(pen, b"\">\n<rect x=\"");
-    frame(pen, points, b"\" y=\"", b"\" width=\"", b"\" height=\"");
-    pages::text(pen, b"\" fill=\"white\"/>\n");
-}
-
-// Corner j of triangle k, and end j of pair k.
-fn corner(list: &[u32], k: usize, j: usize) -> u32 {
-    if j < 3 {
-        if k < list.len() / 3 {
-            return list[3 * k + j];
+fn triangles<W: Write>(pen: &mut W, points: &[i32], list: &[u32]) -> Result<()> {
+    for corners in list.chunks_exact(3) {
+        if let [p, q, r] = *corners {
+            let a = Place::of(points, p);
+            let b = Place::of(points, q);
+            let c = Place::of(points, r);
+            writeln!(pen, "<path d=\"M{a} {b} {c}Z\"/>")?;
         }
     }
-    0
+    Ok(())
 }
 
-fn end_of(pairs: &[u32], k: usize, j: usize) -> u32 {
-    if j < 2 {
-        if k < pairs.len() / 2 {
-            return pairs[2 * k + j];
+fn lines<W: Write>(pen: &mut W, points: &[i32], pairs: &[u32]) -> Result<()> {
+    for ends in pairs.chunks_exact(2) {
+        if let [p, q] = *ends {
+            let a = Place::of(points, p);
+            let b = Place::of(points, q);
+            writeln!(pen, "<path d=\"M{a} {b}\"/>")?;
         }
     }
-    0
-}
-
-fn triangle<W: Write>(pen: &mut Pen<W>, points: &[i32], list: &[u32], k: usize) {
-    pages::text(pen, b"<path d=\"M");
-    place(pen, points, corner(list, k, 0));
-    pages::byte(pen, b' ');
-    place(pen, points, corner(list, k, 1));
-    pages::byte(pen, b' ');
-    place(pen, points, corner(list, k, 2));
-    pages::text(pen, b"Z\"/>\n");
-}
-
-fn line<W: Write>(pen: &mut Pen<W>, points: &[i32], pairs: &[u32], k: usize) {
-    pages::text(pen, b"<path d=\"M");
-    place(pen, points, end_of(pairs, k, 0));
-    pages::byte(pen, b' ');
-    place(pen, points, end_of(pairs, k, 1));
-    pages::text(pen, b"\"/>\n");
-}
-
-fn dot<W: Write>(pen: &mut Pen<W>, points: &[i32], p: u32, radius: usize) {
-    pages::text(pen, b"<circle cx=\"");
-    pages::difference(pen, frames::x_of(points, p), 8192);
-    pages::text(pen, b"\" cy=\"");
-    pages::difference(pen, frames::y_of(points, p), 8192);
-    pages::text(pen, b"\" r=\"");
-    pages::thousandths(pen, radius);
-    pages::text(pen, b"\"/>\n");
-}
-
-// The number of a point, with y downwards, so that the digits stand upright.
-fn label<W: Write>(pen: &mut Pen<W>, points: &[i32], p: u32) {
-    pages::text(pen, b"<text x=\"");
-    pages::difference(pen, frames::x_of(points, p), 8192);
-    pages::text(pen, b"\" y=\"");
-    pages::difference(pen, 8192, frames::y_of(points, p));
-    pages::text(pen, b"\">");
-    pages::number(pen, pages::wide(p));
-    pages::text(pen, b"</text>\n");
-}
-
-fn triangles<W: Write>(pen: &mut Pen<W>, points: &[i32], list: &[u32]) {
-    for k in 0..list.len() / 3 {
-        triangle(pen, points, list, k);
-    }
-}
-
-fn lines<W: Write>(pen: &mut Pen<W>, points: &[i32], pairs: &[u32]) {
-    for k in 0..pairs.len() / 2 {
-        line(pen, points, pairs, k);
-    }
+    Ok(())
 }
 
 // How many points the list has; a sheet has at most 4,096.
 fn count(points: &[i32]) -> u32 {
-    let n = points.len() / 2;
-    if n < 4096 { n as u32 } else { 4096 }
+    (points.len() / 2).min(4096) as u32
 }
 
-fn dots_of<W: Write>(pen: &mut Pen<W>, points: &[i32], radius: usize) {
+fn dots<W: Write>(pen: &mut W, points: &[i32], radius: Thousandths) -> Result<()> {
     for p in 0..count(points) {
-        dot(pen, points, p, radius);
+        let Place { x, y } = Place::of(points, p);
+        writeln!(pen, "<circle cx=\"{x}\" cy=\"{y}\" r=\"{radius}\"/>")?;
     }
+    Ok(())
 }
 
-fn labels<W: Write>(pen: &mut Pen<W>, points: &[i32]) {
+// The numbers of the points, with y downwards, so that the digits stand upright.
+fn labels<W: Write>(pen: &mut W, points: &[i32]) -> Result<()> {
     for p in 0..count(points) {
-        label(pen, points, p);
+        let place = Place::of(points, p);
+        let x = place.x;
+        let y = place.down();
+        writeln!(pen, "<text x=\"{x}\" y=\"{y}\">{p}</text>")?;
     }
+    Ok(())
 }
 
 // The group of the triangles, thin, and that of the demanded lines, heavy.
-fn strokes<W: Write>(pen: &mut Pen<W>, points: &[i32], pairs: &[u32], list: &[u32]) {
-    let unit = frames::letter(points);
-    pages::text(pen, b"<g stroke=\"#777\" stroke-width=\"");
-    pages::thousandths(pen, unit / 24);
-    pages::text(pen, b"\">\n");
-    triangles(pen, points, list);
-    pages::text(pen, b"</g>\n<g stroke=\"black\" stroke-width=\"");
-    pages::thousandths(pen, unit / 6);
-    pages::text(pen, b"\">\n");
-    lines(pen, points, pairs);
-    pages::text(pen, b"</g>\n");
+fn strokes<W: Write>(
+    pen: &mut W,
+    points: &[i32],
+    pairs: &[u32],
+    list: &[u32],
+    unit: usize,
+) -> Result<()> {
+    let thin = Thousandths(unit / 24);
+    let heavy = Thousandths(unit / 6);
+    writeln!(pen, "<g stroke=\"#777\" stroke-width=\"{thin}\">")?;
+    triangles(pen, points, list)?;
+    writeln!(pen, "</g>\n<g stroke=\"black\" stroke-width=\"{heavy}\">")?;
+    lines(pen, points, pairs)?;
+    writeln!(pen, "</g>")
 }
 
 // The group of the points, and that of their numbers, a little to the right and above, each with a rim that keeps the lines off it.
-fn marks<W: Write>(pen: &mut Pen<W>, points: &[i32]) {
-    let unit = frames::letter(points);
-    pages::text(pen, b"<g fill=\"black\">\n");
-    dots_of(pen, points, unit / 6);
-    pages::text(
+fn marks<W: Write>(pen: &mut W, points: &[i32], unit: usize) -> Result<()> {
+    let size = Thousandths(unit);
+    let radius = Thousandths(unit / 6);
+    let shift = Thousandths(unit / 4);
+    writeln!(pen, "<g fill=\"black\">")?;
+    dots(pen, points, radius)?;
+    write!(
         pen,
-        b"</g>\n</g>\n<g font-family=\"sans-serif\" font-size=\"",
-    );
-    pages::thousandths(pen, unit);
-    pages::text(
+        "</g>\n</g>\n<g font-family=\"sans-serif\" font-size=\"{size}\" fill=\"#05a\""
+    )?;
+    write!(
         pen,
-        b"\" fill=\"#05a\" stroke=\"white\" paint-order=\"stroke\" stroke-width=\"",
-    );
-    pages::thousandths(pen, unit / 6);
-    pages::text(pen, b"\" transform=\"translate(");
-    pages::thousandths(pen, unit / 4);
-    pages::text(pen, b" -");
-    pages::thousandths(pen, unit / 4);
-    pages::text(pen, b")\">\n");
-    labels(pen, points);
-    pages::text(pen, b"</g>\n");
+        " stroke=\"white\" paint-order=\"stroke\" stroke-width=\"{radius}\""
+    )?;
+    writeln!(pen, " transform=\"translate({shift} -{shift})\">")?;
+    labels(pen, points)?;
+    writeln!(pen, "</g>")
 }
 
-pub fn draw<W: Write>(pen: &mut Pen<W>, points: &[i32], pairs: &[u32], list: &[u32]) {
-    head(pen, points);
-    pages::text(
+pub fn draw<W: Write>(pen: &mut W, points: &[i32], pairs: &[u32], list: &[u32]) -> Result<()> {
+    let frame = Frame::of(points);
+    head(pen, &frame)?;
+    writeln!(
         pen,
-        b"<g transform=\"scale(1 -1)\" fill=\"none\" stroke-linejoin=\"round\" stroke-linecap=\"round\">\n",
-    );
-    strokes(pen, points, pairs, list);
-    marks(pen, points);
-    pages::text(pen, b"</svg>\n");
+        "<g transform=\"scale(1 -1)\" fill=\"none\" stroke-linejoin=\"round\" stroke-linecap=\"round\">"
+    )?;
+    strokes(pen, points, pairs, list, frame.letter)?;
+    marks(pen, points, frame.letter)?;
+    writeln!(pen, "</svg>")
 }

@@ -16,7 +16,10 @@ use Rattle.algebra.proofs.Size.{all, size_le, small_within, fits, abs_add, mag_a
 use Rattle.plane.specs.Determinants.{orient}
 use Rattle.plane.specs.Base.{area_of_base}
 use Rattle.plane.proofs.Polynomials.{orient_e, on3}
+use Rattle.plane.specs.Points.{Pt}
 use Rattle.signs.specs.Answers.{limit}
+use Rattle.signs.specs.Points.{pt_of}
+use Rattle.signs.specs.declared.Point.{Point}
 use Rattle.tables.specs.Data.{point, base}
 use Rattle.tables.specs.Rules.{triples, corner, triple_area, rule5}
 use Rattle.segments.specs.Near.{Near}
@@ -24,6 +27,13 @@ use Rattle.segments.proofs.Points.{row, near_row}
 use Rattle.segments.proofs.Compare.{eq_bits}
 
 module _ (ps : List ℤ) (near : Near ps) where
+  -- a coordinate of a point that was read is within the limit
+  pub near_x : (i : ℕ) {p : Point} → pt_of p ≡ point ps i → nat_abs p.x ≤ limit
+  near_x i e = subst (λ (q : Pt ℤ). nat_abs q.x ≤ limit) (sym e) (near_row ps near (i ∷ [])).0
+
+  pub near_y : (i : ℕ) {p : Point} → pt_of p ≡ point ps i → nat_abs p.y ≤ limit
+  near_y i e = subst (λ (q : Pt ℤ). nat_abs q.y ≤ limit) (sym e) (near_row ps near (i ∷ [])).1.0
+
   module _ (a b c : ℕ) where
     abbrev ρ : List ℤ
     ρ = row ps (a ∷ b ∷ c ∷ [])

@@ -11,18 +11,11 @@ ghost use Rattle.segments.specs.Near.{Near};
 ghost use Rattle.edges.specs.Index.{Corners};
 ghost use Rattle.place_rules.specs.Numbered.{area};
 
-// ---- the base reads 0, 1, 2, or 0, 2, 1 where it is clockwise
-
-fn second(cw: bool) -> usize
-    ensures { result ≡ cond cw 2 1 }
+// The second and the third corner of the base, which reads 0, 1, 2, or 0, 2, 1 where it is clockwise.
+fn after_first(cw: bool) -> (usize, usize)
+    ensures { (result.0 ≡ cond cw 2 1) × (result.1 ≡ cond cw 1 2) }
 {
-    if cw { 2 } else { 1 }
-}
-
-fn third(cw: bool) -> usize
-    ensures { result ≡ cond cw 1 2 }
-{
-    if cw { 1 } else { 2 }
+    if cw { (2, 1) } else { (1, 2) }
 }
 
 // Both u and v are on the line through a and b.
@@ -40,32 +33,22 @@ pub fn along_side(points: &[i32], cw: bool, u: usize, v: usize) -> bool
     requires bound { (3 ≤ point_count points.now) × (u < point_count points.now) × (v < point_count points.now) × (cw ≡ clockwise points.now) }
     ensures { result ≡ along_side points.now u v }
 {
-    let b = second(cw);
-    let c = third(cw);
-    if both_on(points, 0, b, u, v) {
-        return true;
-    }
-    if both_on(points, b, c, u, v) {
-        return true;
-    }
-    both_on(points, c, 0, u, v)
+    let (b, c) = after_first(cw);
+    both_on(points, 0, b, u, v) || both_on(points, b, c, u, v) || both_on(points, c, 0, u, v)
 }
 
 // ---- rule 5
 
-// The crate signs tells only the sign of an orientation, and a sum needs its size.
+// Twice the area of a, b and c, which is negative where they are clockwise.
 fn twice_area(points: &[i32], a: usize, b: usize, c: usize) -> i64
     requires near { Near points.now }
     requires a_bound { (a < point_count points.now) × (b < point_count points.now) × (c < point_count points.now) }
     ensures { result ≡ area points.now a b c }
 {
-    let cx = points[2 * c] as i64;
-    let cy = points[2 * c + 1] as i64;
-    let acx = (points[2 * a] as i64) - cx;
-    let acy = (points[2 * a + 1] as i64) - cy;
-    let bcx = (points[2 * b] as i64) - cx;
-    let bcy = (points[2 * b + 1] as i64) - cy;
-    acx * bcy - acy * bcx
+    let a = segments::point_at(points, a);
+    let b = segments::point_at(points, b);
+    let c = segments::point_at(points, c);
+    signs::orient_det(a, b, c)
 }
 
 // Rule 5: twice the areas of the triples sum to twice the base's. The sum fits, since there are at most 8,187 triples and each area is at
@@ -75,19 +58,15 @@ pub fn areas_fill(points: &[i32], list: &[u32], cw: bool) -> bool
     requires bound { (3 ≤ point_count points.now) × (cw ≡ clockwise points.now) × Corners (point_count points.now) list.now × (length list.now ≤ 24561) }
     ensures { result ≡ rule5 points.now list.now }
 {
-    let count = list.len() / 3;
     let mut sum: i64 = 0;
-    let mut t = 0;
-    while t < count {
+    for t in 0..list.len() / 3 {
         sum += twice_area(
             points,
             list[3 * t] as usize,
             list[3 * t + 1] as usize,
             list[3 * t + 2] as usize,
         );
-        t += 1;
     }
-    let b = second(cw);
-    let c = third(cw);
+    let (b, c) = after_first(cw);
     sum == twice_area(points, 0, b, c)
 }

@@ -7,28 +7,20 @@ ghost use Rattle.tables.specs.Answers.{lowest};
 ghost use Rattle.tables.specs.Data.{point_count, point, same};
 ghost use Rattle.tables.specs.Refusals.{far, again};
 
-use tables::Lowest;
-
 // ---- row 4
 
 fn is_far(points: &[i32], i: usize) -> bool
     requires { i < point_count points.now }
     ensures { result ≡ far points.now i }
 {
-    !signs::within(points[2 * i], points[2 * i + 1])
+    !signs::within(segments::point_at(points, i))
 }
 
 // The lowest point with a coordinate beyond the limit.
-pub fn far_point(points: &[i32]) -> Lowest
+pub fn far_point(points: &[i32]) -> Option<usize>
     ensures { result ≡ lowest (point_count points.now) (far points.now) }
 {
-    let n = points.len() / 2;
-    for i in 0..n {
-        if is_far(points, i) {
-            return Lowest::At(i);
-        }
-    }
-    Lowest::Nowhere
+    (0..points.len() / 2).find(|&i| is_far(points, i))
 }
 
 // ---- row 7
@@ -37,34 +29,19 @@ fn at_one_place(points: &[i32], i: usize, j: usize) -> bool
     requires { (i < point_count points.now) × (j < point_count points.now) }
     ensures { result ≡ same (point points.now i) (point points.now j) }
 {
-    if points[2 * i] == points[2 * j] {
-        points[2 * i + 1] == points[2 * j + 1]
-    } else {
-        false
-    }
+    segments::point_at(points, i) == segments::point_at(points, j)
 }
 
 fn seen_before(points: &[i32], i: usize) -> bool
     requires { i < point_count points.now }
     ensures { result ≡ again points.now i }
 {
-    for j in 0..i {
-        if at_one_place(points, j, i) {
-            return true;
-        }
-    }
-    false
+    (0..i).any(|j| at_one_place(points, j, i))
 }
 
 // The lowest point at the place of one before it.
-pub fn equal_point(points: &[i32]) -> Lowest
+pub fn equal_point(points: &[i32]) -> Option<usize>
     ensures { result ≡ lowest (point_count points.now) (again points.now) }
 {
-    let n = points.len() / 2;
-    for i in 0..n {
-        if seen_before(points, i) {
-            return Lowest::At(i);
-        }
-    }
-    Lowest::Nowhere
+    (0..points.len() / 2).find(|&i| seen_before(points, i))
 }

@@ -1,5 +1,7 @@
 // The ranks of the points, their places in the order of x, then y: each point is an item of the words of x, of y and of its number, the
 // items are sorted, and each point's place is written where the working area keeps its rank.
+//
+// The rows of items stay places of the lent area, three numbers each: the rule of fixed memory asks for it.
 #![tactic(auto)]
 
 ghost use Rattle.std.specs.Prelude.{◌≡◌, ◌+◌, ◌*◌, ◌≤◌, nat_abs, length};
@@ -22,13 +24,10 @@ fn fill(points: &[i32], work: &mut [u32], lo: usize)
     requires { Figure points.now × (lo + 3 * point_count points.now ≤ length work.old) }
     ensures { Filled points.now lo (point_count points.now) work.old work.new }
 {
-    let n = points.len() / 2;
-    let mut i = 0;
-    while i < n {
+    for i in 0..points.len() / 2 {
         let x = word(points[2 * i]);
         let y = word(points[2 * i + 1]);
-        sorts::set_item(work, lo + 3 * i, x, y, i as u32);
-        i += 1;
+        sorts::set_item(work, lo + 3 * i, (x, y, i as u32));
     }
 }
 
@@ -37,11 +36,9 @@ fn mark(work: &mut [u32], lo: usize, n: usize)
     requires { (n ≤ 4096) × (16 * n ≤ lo) × (lo + 3 * n ≤ length work.old) × Numbered work.old lo n }
     ensures { Marked work.old lo n n work.new }
 {
-    let mut k = 0;
-    while k < n {
+    for k in 0..n {
         let i = work[lo + 3 * k + 2] as usize;
         work[16 * i + 11] = k as u32;
-        k += 1;
     }
 }
 

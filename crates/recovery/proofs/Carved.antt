@@ -1,23 +1,22 @@
 -- A pair is recovered: its triangles are made anew, its edge is marked, they become suspects, and edges are flipped. Assumes nothing.
-use mathlib.Core.List.{List, [], ◌∷◌}
+use mathlib.Core.List.{List, ◌∷◌}
 use mathlib.Core.Path.{◌≡◌, refl, sym, ap, ◌∙◌, subst}
-use Prim.Native.Nat.{ℕ, zero, suc, ◌+◌, ◌-◌, ◌*◌, ◌≤◌, ◌<◌}
+use Prim.Native.Nat.{ℕ, zero, suc, ◌-◌, ◌*◌, ◌≤◌, ◌<◌}
 use native.Mathlib.Decide.{dec_lt}
 use native.Mathlib.Omega.{arith}
 use lib.IntN.{ℤ}
-use lib.ListN.{length, get_or}
-use Rattle.tables.specs.Data.{point_count, pair_count, point, end_a, end_b, base}
+use lib.ListN.{length}
+use Rattle.tables.specs.Data.{point_count, point, end_a, end_b, base}
 use Rattle.tables.specs.Rules.{rank}
 use Rattle.nets.specs.Flipping.{Mem, Mem.top, Mem.below, Legal}
 use Rattle.nets.specs.Layout.{net_of, Kept}
-use Rattle.nets.specs.Nets.{Net}
 use Rattle.nets.specs.Tilings.{Tiling}
 use Rattle.nets.proofs.Keeps.{kept_then}
 use Rattle.suspects.specs.Stack.{stack, Suspects, Aside}
 use Rattle.chains.specs.Areas.{adj, slot_of, mark_w, Room, Still}
 use Rattle.chains.specs.Recoveries.{WholeW}
 use Rattle.chains.specs.Sticking.{Leaves}
-use Rattle.chains.proofs.Rooms.{mark_room, mark_still, still_kept, slot_still, near}
+use Rattle.chains.proofs.Rooms.{mark_room, mark_still, still_kept, slot_still}
 use Rattle.flipping.specs.Above.{Above}
 use Rattle.carving.specs.Closing.{CanMark}
 use Rattle.carving.specs.Suspecting.{Different, down_from, Suspected}

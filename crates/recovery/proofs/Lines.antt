@@ -1,40 +1,41 @@
 -- The working area with the first pairs in: what its parts ask for, and what each of them leaves. Assumes nothing.
 use mathlib.Core.List.{List}
-use mathlib.Core.Logic.{◌⊎◌, inl, inr}
-use mathlib.Core.Path.{◌≡◌, refl, sym, ap, ◌∙◌, subst}
-use Prim.Native.Nat.{ℕ, zero, suc, ◌+◌, ◌-◌, ◌*◌, ◌/◌, ◌%◌, ◌≤◌, ◌<◌}
+use mathlib.Core.Path.{◌≡◌, refl, sym, ◌∙◌, subst}
+use Prim.Native.Nat.{ℕ, zero, suc, ◌+◌, ◌*◌, ◌%◌, ◌≤◌, ◌<◌}
 use native.Mathlib.Decide.{dec_lt}
 use native.Mathlib.Omega.{arith}
 use lib.IntN.{ℤ}
-use lib.ListN.{length, get_or}
 use Rattle.plane.specs.Base.{Side}
 use Rattle.plane.specs.Points.{Pt}
-use Rattle.tables.specs.Data.{point_count, pair_count, point, end_a, end_b, base}
-use Rattle.tables.specs.Rules.{rank}
-use Rattle.nets.specs.Flipping.{Mem, Legal}
+use Rattle.tables.specs.Data.{point_count, point, end_a, end_b}
 use Rattle.nets.specs.Layout.{cell, net_of, Kept}
-use Rattle.nets.specs.Nets.{Net}
 use Rattle.nets.specs.Tilings.{Tiling}
-use Rattle.nets.proofs.Keeps.{kept_then}
-use Rattle.chains.specs.Areas.{org, adj, chain_cell, slot_cell, chain_of, slot_of, mark_w, Room}
-use Rattle.chains.specs.Recoveries.{WholeW, StuckW}
+use Rattle.chains.specs.Areas.{adj, chain_cell, slot_cell, chain_of, slot_of, mark_w, Room}
+use Rattle.chains.specs.Recoveries.{StuckW}
 use Rattle.chains.specs.Sticking.{Leaves, no_entry}
 use Rattle.chains.proofs.Rooms.{mark_room, mark_still, still_kept, near}
 use Rattle.carving.specs.Closing.{CanMark}
 use Rattle.flipping.specs.Above.{Above}
-use Rattle.looks.specs.Around.{Ranged, Neither}
+use Rattle.looks.specs.Around.{Ranged, Neither, Told}
+use Rattle.looks.specs.declared.Around.{Around}
+use Rattle.nets.specs.Nets.{Net}
+use Rattle.std.specs.Prelude.{Option, Some, None}
 use Rattle.searches.proofs.Apart.{entry_alone}
 use Rattle.looks.proofs.Laws.{ranged}
 use Rattle.sheets.specs.Keeps.{EdgeOf}
 use Rattle.remakes.proofs.Remakes.{grounds}
 use Rattle.chains.specs.declared.Reason.{Reason}
-use Rattle.wants.specs.Tries.{Ready}
 use Rattle.stages.specs.Marking.{mark_net}
-use Rattle.stages.specs.Stages.{Paired, Remade, Ground}
+use Rattle.stages.specs.Stages.{Ground}
 use Rattle.stages.proofs.Areas.{mark_net_lem}
-use Rattle.stages.proofs.Stages.{already, recovered}
-use Rattle.builder.specs.Stages.{Ranks}
+use Rattle.stages.proofs.Stages.{already}
 use Rattle.recovery.specs.Lines.{Lined}
+
+-- ---- an answer that is neither an edge nor an entry edge
+
+pub nothing : (N : Type 0) (P : ℕ → Pt ℤ) (m : Net) (a b : ℕ) (o : Option Around) → ((r : Around) → ¬ (o ≡ Some r)) → Told N P m a b o → N
+nothing N P m a b (Some r) k x = absurd (k r refl)
+nothing N P m a b None k x = x
 
 -- ---- the room after flipping
 

@@ -1,19 +1,25 @@
 // What the arguments ask for.
 use std::env::{Env, FillError};
 
-// Which of its two forms the answer is to have and which argument names the file, 0 where none does; or what the program does instead: it
-// says how it is used, or which argument it does not take.
-#[derive(Drop)]
+// The two forms of the answer: a line, or a picture of the sheet.
+#[derive(Clone, Copy, Debug, PartialEq, Eq)]
+pub enum Form {
+    Line,
+    Picture,
+}
+
+// The form of the answer, and which argument names the file, if one does; or what the program does instead: it says how it is used, or which
+// argument it does not take.
+#[derive(Clone, Copy, Debug, PartialEq, Eq)]
 pub enum Wish {
-    Line(usize),
-    Picture(usize),
+    Cut { form: Form, file: Option<usize> },
     Help,
     Unknown(usize),
     Second(usize),
 }
 
 // What one argument is.
-#[derive(Drop)]
+#[derive(Clone, Copy, Debug, PartialEq, Eq)]
 enum Kind {
     Svg,
     Help,
@@ -21,28 +27,13 @@ enum Kind {
     Name,
 }
 
-fn is_same(a: &[u8], b: &[u8]) -> bool {
-    a == b
-}
-
-fn starts_with_dash(word: &[u8]) -> bool {
-    if word.len() > 0 {
-        return word[0] == b'-';
-    }
-    false
-}
-
 fn kind_of(word: &[u8]) -> Kind {
-    if is_same(word, b"--svg") {
-        return Kind::Svg;
+    match word {
+        b"--svg" => Kind::Svg,
+        b"--help" => Kind::Help,
+        [b'-', ..] => Kind::Option,
+        _ => Kind::Name,
     }
-    if is_same(word, b"--help") {
-        return Kind::Help;
-    }
-    if starts_with_dash(word) {
-        return Kind::Option;
-    }
-    Kind::Name
 }
 
 // Argument i, if there are so many. One that is too long for a path is taken for a name, which then cannot be opened.
@@ -57,33 +48,19 @@ fn kind_at(rt: &impl Env, i: usize) -> Option<Kind> {
 
 // The arguments from the first to the last, in any order; the first that is not taken is the answer.
 pub fn asked(rt: &impl Env) -> Wish {
-    let mut is_picture = false;
-    let mut name = 0;
+    let mut form = Form::Line;
+    let mut file = None;
     for i in 1..usize::MAX {
-        match kind_at(rt, i) {
-            None => {
-                break;
-            }
-            Some(Kind::Svg) => {
-                is_picture = true;
-            }
-            Some(Kind::Help) => {
-                return Wish::Help;
-            }
-            Some(Kind::Option) => {
-                return Wish::Unknown(i);
-            }
-            Some(Kind::Name) => {
-                if name != 0 {
-                    return Wish::Second(i);
-                }
-                name = i;
-            }
+        let Some(kind) = kind_at(rt, i) else {
+            break;
+        };
+        match kind {
+            Kind::Svg => form = Form::Picture,
+            Kind::Help => return Wish::Help,
+            Kind::Option => return Wish::Unknown(i),
+            Kind::Name if file.is_some() => return Wish::Second(i),
+            Kind::Name => file = Some(i),
         }
     }
-    if is_picture {
-        Wish::Picture(name)
-    } else {
-        Wish::Line(name)
-    }
+    Wish::Cut { form, file }
 }

@@ -4,12 +4,11 @@ use std::io::{Cursor, Error, Write};
 // The system's own words: the library adds the number of the error to them, as in `No such file or directory (os error 2)`. Zeros are room
 // that nothing was said in.
 fn words(said: &[u8]) -> &[u8] {
-    for i in 0..said.len() {
-        if said[i] == 0 || said[i..].starts_with(b" (os error ") {
-            return &said[..i];
-        }
+    let end = (0..said.len()).position(|i| said[i] == 0 || said[i..].starts_with(b" (os error "));
+    match end {
+        Some(i) => &said[..i],
+        None => said,
     }
-    said
 }
 
 // A line: what failed, as the caller names it, a colon and the system's words.

@@ -1,29 +1,43 @@
-// A whole text into a list.
-use std::io::{Error, Read};
+// The file of a name, and a whole text into a list.
+ghost use Rattle.std.specs.Prelude.{◌≡◌, IsErrAnd, IsUtf8};
+ghost use Rattle.std.specs.IoError.{error_kind};
 
-// What reading comes to: the text's length; or the text does not end within the list; or the system refused, and why.
+use std::fs::{self, Files};
+use std::io::{self, Error, ErrorKind, Read};
+
+// A path of std is text: a name that is no UTF-8 is refused, and nothing is opened.
+pub fn open<R: Files>(files: &R, path: &[u8]) -> io::Result<R::File>
+    ensures { (IsUtf8 path.now → ⊥) → IsErrAnd result (λ e. error_kind e ≡ ErrorKind.InvalidFilename) }
+{
+    match str::from_utf8(path) {
+        Ok(name) => fs::open(files, name),
+        Err(_) => Err(Error::from(ErrorKind::InvalidFilename)),
+    }
+}
+
+// Why there is no text: it does not end within the list; or the system refused, and why.
 #[derive(Drop)]
-pub enum Reading {
-    Text(usize),
+pub enum Unread {
     TooLong,
     Failed(Error),
 }
 
-// Reads to the text's end. A list that is filled holds no whole text, since its end was not met.
-pub fn read_text(input: &mut impl Read, text: &mut [u8]) -> Reading {
+impl From<Error> for Unread {
+    fn from(why: Error) -> Unread {
+        Unread::Failed(why)
+    }
+}
+
+// Reads to the text's end, and answers the part of the list that the text is. A list that is filled holds no whole text, since its end was not
+// met.
+pub fn read_text<'a>(input: &mut impl Read, text: &'a mut [u8]) -> Result<&'a [u8], Unread> {
     let mut at = 0;
     while at < text.len() {
-        match input.read(&mut text[at..]) {
-            Ok(0) => {
-                return Reading::Text(at);
-            }
-            Ok(n) => {
-                at += n;
-            }
-            Err(why) => {
-                return Reading::Failed(why);
-            }
+        let n = input.read(&mut text[at..])?;
+        if n == 0 {
+            return Ok(&text[..at]);
         }
+        at += n;
     }
-    Reading::TooLong
+    Err(Unread::TooLong)
 }

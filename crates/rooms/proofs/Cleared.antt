@@ -1,12 +1,11 @@
 -- A list whose first numbers are made zero. Assumes nothing.
 use mathlib.Core.Path.{◌≡◌, refl, sym, ap, ◌∙◌, subst}
-use mathlib.Core.List.{List, [], ◌∷◌}
-use Prim.Native.Nat.{ℕ, zero, suc, ◌+◌, ◌≤◌, ◌<◌}
+use mathlib.Core.List.{List, [], ◌∷◌, ◌++◌}
+use Prim.Native.Nat.{ℕ, zero, suc, ◌≤◌, ◌<◌}
 use native.Mathlib.Nat.{le_of_suc-le-suc, not-suc-le-zero}
-use native.Mathlib.Numerals.{add-one}
 use native.Mathlib.Decide.{dec_lt}
 use native.Mathlib.Omega.{arith}
-use lib.ListN.{length, get_or, set}
+use lib.ListN.{length, get_or, replicate, take, drop}
 use lib.Seq.{ext_get_or}
 use Rattle.tables.specs.Verdicts.{cleared}
 use Rattle.rooms.specs.Rest.{Rest}
@@ -17,14 +16,15 @@ cleared_length zero w = refl
 cleared_length (suc k) [] = refl
 cleared_length (suc k) (x ∷ w) = ap suc (cleared_length k w)
 
-step : (i : ℕ) (w : List ℕ) → i < length w → set (cleared i w) i 0 ≡ cleared (suc i) w
+-- zeros over the first k numbers, and what stands behind them
+filled : (k : ℕ) (w : List ℕ) → replicate (length (take k w)) 0 ++ drop k w ≡ cleared k w
 unfolding cleared
-step i [] h = absurd (not-suc-le-zero h)
-step zero (x ∷ w) h = refl
-step (suc i) (x ∷ w) h = ap (λ (l : List ℕ). 0 ∷ l) (step i w (le_of_suc-le-suc h))
+filled zero w = refl
+filled (suc k) [] = refl
+filled (suc k) (x ∷ w) = ap (λ (l : List ℕ). 0 ∷ l) (filled k w)
 
-pub cleared_step : (i : ℕ) (w : List ℕ) → i < length w → set (cleared i w) i 0 ≡ cleared (i + 1) w
-cleared_step i w h = step i w h ∙ ap (λ (k : ℕ). cleared k w) (sym (add-one i))
+pub cleared_fill : (k : ℕ) (w z : List ℕ) → z ≡ replicate (length (take k w)) 0 → z ++ drop k w ≡ cleared k w
+cleared_fill k w z e = rw e (filled k w)
 
 -- a cleared place reads zero, and one past them reads as before
 pub cleared_zero : (k : ℕ) (w : List ℕ) (p : ℕ) → p < k → get_or (cleared k w) p 0 ≡ 0

@@ -10,6 +10,7 @@ use tables::Refusal;
 pub fn number(r: Refusal) -> u32
     ensures { (result ≡ number_in (of_refusal r)) × (result ≤ 11) }
 {
+    // The numbers stand here by hand, as `as` takes no enum whose variants have values.
     match r {
         Refusal::OddLength => 1,
         Refusal::Counts => 2,
@@ -30,16 +31,11 @@ pub fn place(r: Refusal) -> usize
     ensures { result ≡ place_of r }
 {
     match r {
-        Refusal::OddLength => 0,
-        Refusal::Counts => 0,
-        Refusal::Room => 0,
-        Refusal::FarPoint(i) => i,
-        Refusal::NoArea => 0,
-        Refusal::OutsidePoint(i) => i,
-        Refusal::EqualPoint(i) => i,
-        Refusal::BadPair(k) => k,
-        Refusal::BlockedPair(k) => k,
-        Refusal::CrossingPair(k) => k,
-        Refusal::StuckPair(k) => k,
+        Refusal::OddLength | Refusal::Counts | Refusal::Room | Refusal::NoArea => 0,
+        Refusal::FarPoint(i) | Refusal::OutsidePoint(i) | Refusal::EqualPoint(i) => i,
+        Refusal::BadPair(k)
+        | Refusal::BlockedPair(k)
+        | Refusal::CrossingPair(k)
+        | Refusal::StuckPair(k) => k,
     }
 }

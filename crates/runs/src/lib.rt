@@ -2,38 +2,11 @@
 // of the sheet.
 #![tactic(auto)]
 
-use cutter::Outcome;
 use reports::MARK;
 use std::io;
 
-// The count of the sheet's triples, and 0 for a refusal.
-fn told(rt: &impl Print, answer: Outcome) -> io::Result<usize> {
-    match answer {
-        Outcome::Sheet(count) => {
-            reports::text(rt, b"sheet, T = ")?;
-            reports::number(rt, count)?;
-            Ok(count)
-        }
-        Outcome::Refused(r) => {
-            reports::refused(rt, r)?;
-            Ok(0)
-        }
-    }
-}
-
-fn verdict(
-    rt: &impl Print,
-    points: &[i32],
-    pairs: &[u32],
-    list: &[u32],
-    work: &mut [u32],
-) -> io::Result<()> {
-    reports::text(rt, b"; checker: ")?;
-    trials::verdict(rt, points, pairs, list, work)
-}
-
 // The checker writes in the working area too, so it is asked after what the cutter left there is told.
-fn judged(
+fn judge(
     rt: &impl Print,
     points: &[i32],
     pairs: &[u32],
@@ -41,45 +14,48 @@ fn judged(
     work: &mut [u32],
     count: usize,
 ) -> io::Result<()> {
-    if count == 0 {
-        return Ok(());
+    if out.len() / 3 < count {
+        return rt.print("; more triples than there is room for");
     }
-    let room = out.len() / 3;
-    if room < count {
-        return reports::text(rt, b"; more triples than there is room for");
+    rt.print("; checker: ")?;
+    trials::verdict(rt, points, pairs, &out[..3 * count], work)
+}
+
+// A figure that is cut.
+#[derive(Clone, Copy)]
+pub struct Run<'a> {
+    pub name: &'a str,
+    pub points: &'a [i32],
+    pub pairs: &'a [u32],
+}
+
+impl Run<'_> {
+    pub fn cut(self, rt: &impl Print, out: &mut [u32], work: &mut [u32]) -> io::Result<()> {
+        print!(rt; "{}: ", self.name)?;
+        let answer = cutter::cut(self.points, self.pairs, out, work);
+        match answer {
+            Ok(count) => {
+                print!(rt; "sheet, T = {count}")?;
+                reports::sheet(rt, out, count)?;
+            }
+            Err(r) => {
+                reports::refused(rt, r)?;
+                rt.print("\n")?;
+            }
+        }
+        reports::output(rt, out)?;
+        reports::working_area(rt, work)?;
+        if let Ok(count) = answer {
+            judge(rt, self.points, self.pairs, out, work, count)?;
+        }
+        rt.print("\n")
     }
-    let end = 3 * count;
-    verdict(rt, points, pairs, &out[..end], work)
 }
 
-pub fn case(
-    rt: &impl Print,
-    name: &[u8],
-    points: &[i32],
-    pairs: &[u32],
-    out: &mut [u32],
-    work: &mut [u32],
-) -> io::Result<()> {
-    reports::text(rt, name)?;
-    reports::text(rt, b": ")?;
-    let answer = cutter::cut(points, pairs, out, work);
-    let count = told(rt, answer)?;
-    reports::sheet(rt, out, count)?;
-    reports::output(rt, out)?;
-    reports::working_area(rt, work)?;
-    judged(rt, points, pairs, out, work, count)?;
-    reports::text(rt, b"\n")
-}
-
-// A figure of at most seventeen points, with more room than it needs.
-pub fn small(rt: &impl Print, name: &[u8], points: &[i32], pairs: &[u32]) -> io::Result<()> {
-    let mut out = [MARK; 90];
-    let mut work = [MARK; 1100];
-    case(rt, name, points, pairs, &mut out, &mut work)
-}
-
-// The same without pairs.
-pub fn bare(rt: &impl Print, name: &[u8], points: &[i32]) -> io::Result<()> {
-    let none = [0u32; 0];
-    small(rt, name, points, &none)
+// Figures of at most seventeen points, with more room than they need.
+pub fn small(rt: &impl Print, runs: &[Run<'_>]) -> io::Result<()> {
+    for run in runs {
+        run.cut(rt, &mut [MARK; 90], &mut [MARK; 1100])?;
+    }
+    Ok(())
 }

@@ -1,6 +1,6 @@
 -- A comparison of whole numbers is a test of their difference, and equality is what the bits tell. Assumes nothing.
 use mathlib.Core.Path.{◌≡◌, refl, sym, ap, ap₂, ◌∙◌, subst}
-use mathlib.Core.Bool.{Bool, true, false, not}
+use mathlib.Core.Bool.{Bool, true, false, not, true≢false}
 use Prim.Native.Nat.{ℕ, zero, suc, ◌+◌, ◌-◌}
 use native.Mathlib.Nat.{add-zero}
 use native.Mathlib.Omega.{arith}
@@ -11,6 +11,8 @@ use mir.Syntax.{Width}
 use mir.Val.{SFits, of_z, to_z}
 use mir.Facts.{to_z-of_z}
 use borrow.Author.Tests.{lt-ltb, le-ltb, lt-leb, le-leb, ltb-true, ltb-false, eqb-true, eqb-false}
+use Rattle.std.proofs.Common.{int_eq}
+use Rattle.std.proofs.lemmas.Bool.Decides.{Decides-int_eq}
 use Rattle.algebra.specs.Tests.{posb, eq_z}
 use Rattle.algebra.proofs.Machine.{back}
 use Rattle.algebra.proofs.Sum.{by_bool}
@@ -67,3 +69,9 @@ module _ (w : Width) (a b : ℤ) (f : SFits w a) (g : SFits w b) where
   pub eq_bits : eqb (of_z w a) (of_z w b) ≡ eq_z a b
   eq_bits =
       by_bool (eqb (of_z w a) (of_z w b)) (λ e. e ∙ sym (same_bits (eqb-true (of_z w a) (of_z w b) e))) (λ e. e ∙ sym (other_bits (eqb-false (of_z w a) (of_z w b) e)))
+
+-- The library's test of equality is that of whole numbers.
+pub int_eq_is : (a b : ℤ) → int_eq a b ≡ eq_z a b
+int_eq_is a b =
+    by_bool (int_eq a b) (λ i. i ∙ sym (eq_z_yes a b ((Decides-int_eq a b).0 i)))
+    (λ i. i ∙ sym (eq_z_no a b (λ e. true≢false (sym ((Decides-int_eq a b).1 e) ∙ i))))

@@ -1,4 +1,3 @@
 pub mod Points
 pub mod SignTests
 pub mod Compare
-mod Answers

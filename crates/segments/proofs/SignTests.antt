@@ -1,22 +1,18 @@
 -- A test of a number's sign is the test of the number. Assumes nothing.
 use mathlib.Core.Path.{◌≡◌, refl, sym, ap, ◌∙◌}
 use mathlib.Core.Bool.{Bool}
-use mathlib.Core.List.{List}
 use Prim.Native.Nat.{zero, suc}
 use native.Mathlib.Nat.{zero-lt-suc}
+use denote.Enum.Bare.{sameb}
 use lib.Dec.{eqb-suc-zero}
 use lib.IntN.{ℤ, pos, negsuc, neg_ℤ}
 use borrow.Author.Tests.{lt-ltb}
-use mir.Syntax.{w32}
-use Rattle.algebra.specs.Size.{Small}
 use Rattle.algebra.specs.Tests.{posb, eq_z}
-use Rattle.algebra.proofs.Machine.{backs}
-use Rattle.plane.specs.Points.{Pt}
 use Rattle.signs.specs.Signs.{sign_z}
-use Rattle.signs.specs.Answers.{limit}
+use Rattle.signs.specs.contracts.Sign.{the_type}
 use Rattle.signs.specs.declared.Sign.{Sign}
+use Rattle.signs.specs.declared.Sign.TheVariants.{Neg, Zero, Pos}
 use Rattle.segments.specs.Tests.{is_pos, is_neg, is_zero}
-use Rattle.segments.proofs.Points.{three, told3}
 
 pos_test : (z : ℤ) → is_pos (sign_z z) ≡ posb z
 unfolding sign_z
@@ -47,7 +43,18 @@ module _ (z : ℤ) {s : Sign} (e : s ≡ sign_z z) {r : Bool} where
   pub zero_told : r ≡ is_zero s → r ≡ eq_z z (pos 0)
   zero_told h = h ∙ ap is_zero e ∙ zero_test z
 
--- The calls were passed numbers that went through bits, and r turned out to be v.
-module _ (ρ : List ℤ) (small : Small limit ρ) where
-  pub zero3 : (f : Pt ℤ → Pt ℤ → Pt ℤ → ℤ) {s : Sign} → s ≡ sign_z (three f (backs w32 ρ)) → {r v : Bool} → r ≡ is_zero s → r ≡ v → three (λ a b c. eq_z (f a b c) (pos 0)) ρ ≡ v
-  zero3 f e h i = told3 ρ small (λ a b c. eq_z (f a b c) (pos 0)) (zero_told (three f (backs w32 ρ)) e h) i
+-- A comparison with a sign is the test of that sign.
+pub same_pos : (s : Sign) → sameb the_type s Pos ≡ is_pos s
+same_pos Neg = refl
+same_pos Zero = refl
+same_pos Pos = refl
+
+pub same_neg : (s : Sign) → sameb the_type s Neg ≡ is_neg s
+same_neg Neg = refl
+same_neg Zero = refl
+same_neg Pos = refl
+
+pub same_zero : (s : Sign) → sameb the_type s Zero ≡ is_zero s
+same_zero Neg = refl
+same_zero Zero = refl
+same_zero Pos = refl

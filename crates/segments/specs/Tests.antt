@@ -2,13 +2,6 @@
 use Rattle.std.specs.Prelude.{Bool, true, false}
 use Rattle.signs.specs.declared.Sign.{Sign}
 use Rattle.signs.specs.declared.Sign.TheVariants.{Neg, Zero, Pos}
-use Rattle.signs.specs.declared.WholeSign.{WholeSign}
-use Rattle.signs.specs.declared.WholeSign.TheVariants.{Known, OutOfRange}
-
--- This is the sign of an answer. Points within the limit are never out of range, so what that gives does not matter.
-abbrev pub sign_of : WholeSign → Sign
-sign_of (Known s) = s
-sign_of OutOfRange = Zero
 
 abbrev pub is_pos : Sign → Bool
 is_pos Neg = false

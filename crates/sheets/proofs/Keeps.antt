@@ -35,7 +35,7 @@ use Rattle.nets.specs.Flipping.{Lower, by_first, by_second}
 use Rattle.nets.specs.Nets.{Net, dst}
 use Rattle.nets.specs.Tilings.{tri}
 use Rattle.nets.proofs.Slot.{nxt_in}
-use Rattle.nets.proofs.Tile.{from, tri_from}
+use Rattle.nets.proofs.Tile.{tri_from}
 use Rattle.sheets.specs.Keeps.{EdgeOf, Finished, KeepsRules, SheetKeepsRules, SheetAccepted}
 use Rattle.sheets.specs.Sheets.{Listed}
 use Rattle.sheets.proofs.Moved.{sum_moved}

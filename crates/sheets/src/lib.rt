@@ -1,5 +1,7 @@
 // The sheet that is handed out: the triangles of the working area as triples of point numbers in house order. Each triple is turned so
 // that its least number is first, and the triples are sorted as items of three words.
+//
+// The rows of items stay places of the lent area, three numbers each: the rule of fixed memory asks for it.
 #![tactic(auto)]
 
 ghost use Rattle.std.specs.Prelude.{◌+◌, ◌*◌, ◌≤◌, length};
@@ -11,16 +13,7 @@ fn turn(work: &mut [u32], t: usize, to: usize)
     requires { (16 * t + 3 ≤ length work.old) × (to + 3 ≤ length work.old) }
     ensures { Turned work.old t to work.new }
 {
-    let a = work[16 * t];
-    let b = work[16 * t + 1];
-    let c = work[16 * t + 2];
-    if a <= b && a <= c {
-        sorts::set_item(work, to, a, b, c);
-    } else if b <= c {
-        sorts::set_item(work, to, b, c, a);
-    } else {
-        sorts::set_item(work, to, c, a, b);
-    }
+    sorts::set_item(work, to, houses::turned(work, t));
 }
 
 // The triples of the first `count` slots stand as items from lo on, each turned, in the slots' order.
@@ -28,10 +21,8 @@ fn gather(work: &mut [u32], lo: usize, count: usize)
     requires { (16 * count ≤ lo) × (lo + 3 * count ≤ length work.old) }
     ensures { Gathered work.old lo count work.new }
 {
-    let mut t = 0;
-    while t < count {
+    for t in 0..count {
         turn(work, t, lo + 3 * t);
-        t += 1;
     }
 }
 
@@ -40,11 +31,7 @@ fn hand_out(work: &[u32], lo: usize, n: usize, out: &mut [u32])
     requires { (lo + n ≤ length work.now) × (n ≤ length out.old) }
     ensures { Copied work.now lo n out.old out.new }
 {
-    let mut k = 0;
-    while k < n {
-        out[k] = work[lo + k];
-        k += 1;
-    }
+    out[..n].copy_from_slice(&work[lo..lo + n]);
 }
 
 // Writes the triangles of the first `count` slots to the front of `out`, in house order. The items stand behind the slots of the working

@@ -1,13 +1,13 @@
 -- What printing a number asks: the size of a negative one, and that a float equal to itself is no NaN. Assumes nothing.
-use mathlib.Core.Path.{◌≡◌, refl, sym, ap, ◌∙◌, subst}
+use mathlib.Core.Path.{◌≡◌, refl, sym, ◌∙◌}
 use mathlib.Core.Bool.{true, false, not, false≢true}
-use Prim.Native.Nat.{ℕ, zero, suc, ◌-◌, ◌^◌, ◌<◌, ◌≤◌, zero-le, suc-le-suc}
+use Prim.Native.Nat.{ℕ, suc, ◌-◌, ◌^◌, ◌<◌, zero-le, suc-le-suc}
 use native.Mathlib.Omega.{arith}
 use lib.Dec.{T}
-use lib.IntN.{ℤ, pos, negsuc, ◌-ℤ◌, sub_ℕ}
+use lib.IntN.{ℤ, pos, negsuc, ◌-ℤ◌}
 use lib.Signed.{lt_z, mag}
 use lib.Ieee.{Float, nan, inf, fin, eq, is_nan}
-use borrow.Author.Tests.{le-ltb, ltb-false}
+use borrow.Author.Tests.{le-ltb}
 use Rattle.floats.proofs.Exact.{sub_le}
 
 -- -1 - z is one less than the size of z

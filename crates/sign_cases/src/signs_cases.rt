@@ -1,89 +1,104 @@
 // The cases of the signs, of the intake, of the parts and of the filter.
 use crate::print;
-use float_signs::{Dyadic, Filtered, Intake, PointIntake, Vec2};
-use signs::WholeSign;
-use std::io;
+use float_signs::{Intake, PointIntake, Vec2};
+use signs::{Point, Sign};
+use std::{fmt, io};
 
-fn answer(rt: &impl Print, a: WholeSign) -> io::Result<()> {
-    match a {
-        WholeSign::Known(s) => print::sign(rt, s)?,
-        WholeSign::OutOfRange => print::text(rt, b"out of range")?,
+// A sign in a word.
+#[derive(Drop)]
+struct Word(Sign);
+
+impl fmt::Display for Word {
+    fn fmt<W: fmt::Write>(&self, f: &mut fmt::Formatter<W>) -> fmt::Result {
+        f.write_str(match self.0 {
+            Sign::Neg => "negative",
+            Sign::Zero => "zero",
+            Sign::Pos => "positive",
+        })
     }
-    print::line_end(rt)
+}
+
+fn answer(rt: &impl Print, a: Option<Sign>) -> io::Result<()> {
+    match a {
+        Some(s) => println!(rt; "{}", Word(s)),
+        None => rt.println("out of range"),
+    }
+}
+
+fn at(x: i32, y: i32) -> Point {
+    Point { x, y }
+}
+
+// Which coordinate has which value.
+fn replaced(rt: &impl Print, what: &str, i: usize, x: i32) -> io::Result<()> {
+    if i == 0 {
+        print!(rt; "{what}, coordinate 0 at {x}: ")
+    } else {
+        print!(rt; "{what}, coordinate {i} the same: ")
+    }
 }
 
 // The orientation of (0,0), (1,0), (0,1) with each coordinate in turn at x.
 fn orient_each(rt: &impl Print, x: i32) -> io::Result<()> {
-    print::text(rt, b"orientation, coordinate 0 at ")?;
-    print::small(rt, x)?;
-    print::text(rt, b": ")?;
-    answer(rt, signs::orient_sign(x, 0, 1, 0, 0, 1))?;
-    print::text(rt, b"orientation, coordinate 1 the same: ")?;
-    answer(rt, signs::orient_sign(0, x, 1, 0, 0, 1))?;
-    print::text(rt, b"orientation, coordinate 2 the same: ")?;
-    answer(rt, signs::orient_sign(0, 0, x, 0, 0, 1))?;
-    print::text(rt, b"orientation, coordinate 3 the same: ")?;
-    answer(rt, signs::orient_sign(0, 0, 1, x, 0, 1))?;
-    print::text(rt, b"orientation, coordinate 4 the same: ")?;
-    answer(rt, signs::orient_sign(0, 0, 1, 0, x, 1))?;
-    print::text(rt, b"orientation, coordinate 5 the same: ")?;
-    answer(rt, signs::orient_sign(0, 0, 1, 0, 0, x))
+    for i in 0..6 {
+        let mut places = [0, 0, 1, 0, 0, 1];
+        places[i] = x;
+        let [ax, ay, bx, by, cx, cy] = places;
+        replaced(rt, "orientation", i, x)?;
+        answer(rt, signs::orient_sign(at(ax, ay), at(bx, by), at(cx, cy)))?;
+    }
+    Ok(())
 }
 
 // The circle sign of (0,0), (4,0), (0,4) and (1,1) with each coordinate in turn at x.
 fn circle_each(rt: &impl Print, x: i32) -> io::Result<()> {
-    print::text(rt, b"circle, coordinate 0 at ")?;
-    print::small(rt, x)?;
-    print::text(rt, b": ")?;
-    answer(rt, signs::circle_sign(x, 0, 4, 0, 0, 4, 1, 1))?;
-    print::text(rt, b"circle, coordinate 1 the same: ")?;
-    answer(rt, signs::circle_sign(0, x, 4, 0, 0, 4, 1, 1))?;
-    print::text(rt, b"circle, coordinate 2 the same: ")?;
-    answer(rt, signs::circle_sign(0, 0, x, 0, 0, 4, 1, 1))?;
-    print::text(rt, b"circle, coordinate 3 the same: ")?;
-    answer(rt, signs::circle_sign(0, 0, 4, x, 0, 4, 1, 1))?;
-    print::text(rt, b"circle, coordinate 4 the same: ")?;
-    answer(rt, signs::circle_sign(0, 0, 4, 0, x, 4, 1, 1))?;
-    print::text(rt, b"circle, coordinate 5 the same: ")?;
-    answer(rt, signs::circle_sign(0, 0, 4, 0, 0, x, 1, 1))?;
-    print::text(rt, b"circle, coordinate 6 the same: ")?;
-    answer(rt, signs::circle_sign(0, 0, 4, 0, 0, 4, x, 1))?;
-    print::text(rt, b"circle, coordinate 7 the same: ")?;
-    answer(rt, signs::circle_sign(0, 0, 4, 0, 0, 4, 1, x))
+    for i in 0..8 {
+        let mut places = [0, 0, 4, 0, 0, 4, 1, 1];
+        places[i] = x;
+        let [ax, ay, bx, by, cx, cy, dx, dy] = places;
+        replaced(rt, "circle", i, x)?;
+        answer(
+            rt,
+            signs::circle_sign(at(ax, ay), at(bx, by), at(cx, cy), at(dx, dy)),
+        )?;
+    }
+    Ok(())
 }
 
-pub fn whole(rt: &impl Print) -> io::Result<()> {
-    orient_each(rt, 8192)?;
-    orient_each(rt, -8192)?;
-    orient_each(rt, 8193)?;
-    orient_each(rt, -8193)?;
-    orient_each(rt, 2147483647)?;
-    orient_each(rt, -2147483648)?;
-    circle_each(rt, 8192)?;
-    circle_each(rt, -8192)?;
-    circle_each(rt, 8193)?;
-    circle_each(rt, -8193)?;
-    print::text(rt, b"P7, circle of (0,0), (4,0), (0,4) with (1,1): ")?;
-    answer(rt, signs::circle_sign(0, 0, 4, 0, 0, 4, 1, 1))?;
-    print::text(rt, b"P8, the same with (4,4): ")?;
-    answer(rt, signs::circle_sign(0, 0, 4, 0, 0, 4, 4, 4))?;
-    print::text(rt, b"P9, the same with (5,5): ")?;
-    answer(rt, signs::circle_sign(0, 0, 4, 0, 0, 4, 5, 5))?;
-    print::text(rt, b"circle of the limit's square and its middle: ")?;
+// The circle sign of (0,0), (4,0), (0,4) and a fourth point.
+fn circle_with(rt: &impl Print, d: Point) -> io::Result<()> {
+    answer(rt, signs::circle_sign(at(0, 0), at(4, 0), at(0, 4), d))
+}
+
+// The circle sign of three corners of the limit's square and a fourth point.
+fn square_with(rt: &impl Print, d: Point) -> io::Result<()> {
     answer(
         rt,
-        signs::circle_sign(-8192, -8192, 8192, -8192, 8192, 8192, 0, 0),
-    )?;
-    print::text(rt, b"circle of the limit's square and its fourth corner: ")?;
-    answer(
-        rt,
-        signs::circle_sign(-8192, -8192, 8192, -8192, 8192, 8192, -8192, 8192),
+        signs::circle_sign(at(-8192, -8192), at(8192, -8192), at(8192, 8192), d),
     )
 }
 
+pub fn whole(rt: &impl Print) -> io::Result<()> {
+    for x in [8192, -8192, 8193, -8193, 2147483647, -2147483648] {
+        orient_each(rt, x)?;
+    }
+    for x in [8192, -8192, 8193, -8193] {
+        circle_each(rt, x)?;
+    }
+    rt.print("P7, circle of (0,0), (4,0), (0,4) with (1,1): ")?;
+    circle_with(rt, at(1, 1))?;
+    rt.print("P8, the same with (4,4): ")?;
+    circle_with(rt, at(4, 4))?;
+    rt.print("P9, the same with (5,5): ")?;
+    circle_with(rt, at(5, 5))?;
+    rt.print("circle of the limit's square and its middle: ")?;
+    square_with(rt, at(0, 0))?;
+    rt.print("circle of the limit's square and its fourth corner: ")?;
+    square_with(rt, at(-8192, 8192))
+}
+
 fn taken(rt: &impl Print, v: f64) -> io::Result<()> {
-    let a = float_signs::take_in(v);
-    match a {
+    match float_signs::take_in(v) {
         Intake::Whole(n) => {
             print::text(rt, b"whole ")?;
             print::small(rt, n)?;
@@ -105,35 +120,29 @@ fn taken(rt: &impl Print, v: f64) -> io::Result<()> {
 }
 
 pub fn intake(rt: &impl Print) -> io::Result<()> {
-    print::text(rt, b"intake of 8192.5: ")?;
-    taken(rt, 8192.5)?;
-    print::text(rt, b"intake of -8192.5: ")?;
-    taken(rt, -8192.5)?;
-    print::text(rt, b"intake of 0.5: ")?;
-    taken(rt, 0.5)?;
-    print::text(rt, b"intake of -0.0: ")?;
-    taken(rt, -0.0)?;
-    print::text(rt, b"intake of 8192.0: ")?;
-    taken(rt, 8192.0)?;
-    print::text(rt, b"intake of -8192.0: ")?;
-    taken(rt, -8192.0)?;
-    print::text(rt, b"intake of 8191.5: ")?;
-    taken(rt, 8191.5)?;
-    print::text(rt, b"intake of a NaN: ")?;
-    taken(rt, 0.0 / 0.0)?;
-    print::text(rt, b"intake of infinity: ")?;
-    taken(rt, 1.0 / 0.0)?;
-    print::text(rt, b"intake of minus infinity: ")?;
-    taken(rt, -1.0 / 0.0)?;
-    print::text(rt, b"intake of the least subnormal: ")?;
-    taken(rt, 5e-324)?;
-    print::text(rt, b"intake of the largest finite: ")?;
-    taken(rt, 1.7976931348623157e308)
+    let cases = [
+        ("8192.5", 8192.5),
+        ("-8192.5", -8192.5),
+        ("0.5", 0.5),
+        ("-0.0", -0.0),
+        ("8192.0", 8192.0),
+        ("-8192.0", -8192.0),
+        ("8191.5", 8191.5),
+        ("a NaN", 0.0 / 0.0),
+        ("infinity", 1.0 / 0.0),
+        ("minus infinity", -1.0 / 0.0),
+        ("the least subnormal", 5e-324),
+        ("the largest finite", 1.7976931348623157e308),
+    ];
+    for (name, v) in cases {
+        print!(rt; "intake of {name}: ")?;
+        taken(rt, v)?;
+    }
+    Ok(())
 }
 
 fn taken_point(rt: &impl Print, x: f64, y: f64) -> io::Result<()> {
-    let a = float_signs::take_in_point(Vec2 { x: x, y: y });
-    match a {
+    match float_signs::take_in_point(Vec2 { x, y }) {
         PointIntake::Whole(m, n) => {
             print::text(rt, b"whole ")?;
             print::small(rt, m)?;
@@ -157,72 +166,67 @@ fn taken_point(rt: &impl Print, x: f64, y: f64) -> io::Result<()> {
 }
 
 pub fn points(rt: &impl Print) -> io::Result<()> {
-    print::text(rt, b"intake of the point 3.0, -7.0: ")?;
-    taken_point(rt, 3.0, -7.0)?;
-    print::text(rt, b"intake of the point 0.5, 8193.0: ")?;
-    taken_point(rt, 0.5, 8193.0)?;
-    print::text(rt, b"intake of the point 8193.0, 0.5: ")?;
-    taken_point(rt, 8193.0, 0.5)?;
-    print::text(rt, b"intake of the point 3.0, infinity: ")?;
-    taken_point(rt, 3.0, 1.0 / 0.0)
+    let cases = [
+        ("3.0, -7.0", 3.0, -7.0),
+        ("0.5, 8193.0", 0.5, 8193.0),
+        ("8193.0, 0.5", 8193.0, 0.5),
+        ("3.0, infinity", 3.0, 1.0 / 0.0),
+    ];
+    for (name, x, y) in cases {
+        print!(rt; "intake of the point {name}: ")?;
+        taken_point(rt, x, y)?;
+    }
+    Ok(())
 }
 
 fn parted(rt: &impl Print, v: f64) -> io::Result<()> {
-    let a = float_signs::decomp(v);
-    match a {
-        Dyadic::Parts(m, e) => {
-            print::integer(rt, m)?;
-            print::text(rt, b" times 2 to the ")?;
-            print::small(rt, e)?;
-        }
-        Dyadic::NotFinite => print::text(rt, b"not finite")?,
+    match float_signs::decomp(v) {
+        Some(d) => println!(rt; "{} times 2 to the {}", d.mantissa, d.exponent),
+        None => rt.println("not finite"),
     }
-    print::line_end(rt)
 }
 
 pub fn parts(rt: &impl Print) -> io::Result<()> {
-    print::text(rt, b"decomp of 12.0: ")?;
-    parted(rt, 12.0)?;
-    print::text(rt, b"decomp of -0.5: ")?;
-    parted(rt, -0.5)?;
-    print::text(rt, b"decomp of 0.0: ")?;
-    parted(rt, 0.0)?;
-    print::text(rt, b"decomp of -0.0: ")?;
-    parted(rt, -0.0)?;
-    print::text(rt, b"decomp of a NaN: ")?;
-    parted(rt, 0.0 / 0.0)?;
-    print::text(rt, b"decomp of infinity: ")?;
-    parted(rt, 1.0 / 0.0)?;
-    print::text(rt, b"decomp of minus infinity: ")?;
-    parted(rt, -1.0 / 0.0)?;
-    print::text(rt, b"decomp of the least subnormal: ")?;
-    parted(rt, 5e-324)?;
-    print::text(rt, b"decomp of the largest finite: ")?;
-    parted(rt, 1.7976931348623157e308)
+    let cases = [
+        ("12.0", 12.0),
+        ("-0.5", -0.5),
+        ("0.0", 0.0),
+        ("-0.0", -0.0),
+        ("a NaN", 0.0 / 0.0),
+        ("infinity", 1.0 / 0.0),
+        ("minus infinity", -1.0 / 0.0),
+        ("the least subnormal", 5e-324),
+        ("the largest finite", 1.7976931348623157e308),
+    ];
+    for (name, v) in cases {
+        print!(rt; "decomp of {name}: ")?;
+        parted(rt, v)?;
+    }
+    Ok(())
 }
 
-fn filtered(rt: &impl Print, cx: f64, cy: f64) -> io::Result<()> {
+fn filtered(rt: &impl Print, x: f64, y: f64) -> io::Result<()> {
     let a = Vec2 { x: 0.0, y: 0.0 };
     let b = Vec2 {
         x: 8192.0,
         y: 8192.0,
     };
-    let c = Vec2 { x: cx, y: cy };
-    let r = float_signs::orient2d_filter(a, b, c);
-    match r {
-        Filtered::Sure(s) => print::sign(rt, s)?,
-        Filtered::Unsure => print::text(rt, b"no sign")?,
+    match float_signs::orient2d_filter(a, b, Vec2 { x, y }) {
+        Some(s) => println!(rt; "{}", Word(s)),
+        None => rt.println("no sign"),
     }
-    print::line_end(rt)
 }
 
 pub fn filter(rt: &impl Print) -> io::Result<()> {
-    print::text(rt, b"orient2d_filter of (0,0), (8192,8192), (8191,8191): ")?;
-    filtered(rt, 8191.0, 8191.0)?;
-    print::text(rt, b"orient2d_filter of (0,0), (8192,8192), (8191,8192): ")?;
-    filtered(rt, 8191.0, 8192.0)?;
-    print::text(rt, b"orient2d_filter of (0,0), (8192,8192), (8192,8191): ")?;
-    filtered(rt, 8192.0, 8191.0)?;
-    print::text(rt, b"orient2d_filter of (0,0), (8192,8192), (a NaN,0): ")?;
-    filtered(rt, 0.0 / 0.0, 0.0)
+    let cases = [
+        ("8191,8191", 8191.0, 8191.0),
+        ("8191,8192", 8191.0, 8192.0),
+        ("8192,8191", 8192.0, 8191.0),
+        ("a NaN,0", 0.0 / 0.0, 0.0),
+    ];
+    for (name, x, y) in cases {
+        print!(rt; "orient2d_filter of (0,0), (8192,8192), ({name}): ")?;
+        filtered(rt, x, y)?;
+    }
+    Ok(())
 }

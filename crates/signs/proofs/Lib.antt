@@ -1,4 +1,3 @@
 pub mod Signed
-mod Range
 pub mod SignLaws
 pub mod Bounds

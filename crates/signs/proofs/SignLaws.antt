@@ -3,6 +3,7 @@ use mathlib.Core.Path.{◌≡◌, refl, sym, ap, ap₂, ◌∙◌}
 use mathlib.Core.Bool.{Bool, true, false, cond, ◌&&◌}
 use Prim.Native.Nat.{ℕ, zero, suc}
 use lib.IntN.{ℤ, pos, negsuc, neg_ℤ}
+use Rattle.std.proofs.Common.{Option, Some, None}
 use Rattle.plane.specs.Points.{Pt}
 use Rattle.plane.specs.Determinants.{orient, incircle}
 use Rattle.plane.proofs.Orient.{orient_cyc, orient_swap}
@@ -11,8 +12,6 @@ use Rattle.signs.specs.Signs.{sign_z, flipped}
 use Rattle.signs.specs.Answers.{within, orient_answer, circle_answer, opposite}
 use Rattle.signs.specs.Laws.{SignLaws}
 use Rattle.signs.specs.declared.Sign.{Sign}
-use Rattle.signs.specs.declared.WholeSign.{WholeSign}
-use Rattle.signs.specs.declared.WholeSign.TheVariants.{Known, OutOfRange}
 
 pub sign_neg : (z : ℤ) → sign_z (neg_ℤ z) ≡ flipped (sign_z z)
 unfolding sign_z
@@ -42,8 +41,8 @@ back false b c = refl
 
 -- ---- an answer by a test and a sign
 
-answer : Bool → Sign → WholeSign
-answer t s = cond t (Known s) OutOfRange
+answer : Bool → Sign → Option Sign
+answer t s = cond t (Some s) None
 
 turned : (t : Bool) (s : Sign) → answer t (flipped s) ≡ opposite (answer t s)
 unfolding answer

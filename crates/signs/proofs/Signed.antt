@@ -4,14 +4,17 @@ use Prim.Native.Nat.{zero, suc, zero-le}
 use native.Mathlib.Nat.{zero-lt-suc, lt_irrefl, le_of_eq, lt_of_lt_of_le}
 use mathlib.Core.Bool.{Bool, true, false, true≢false, false≢true}
 use lib.IntN.{ℤ, pos, negsuc}
-use lib.Signed.{lt_z}
 use lib.Ieee.{Float, nan, inf, fin, up, down, lt}
 use lib.Ieee.Fits.{up_pos, down_pos}
 use borrow.Author.Tests.{lt-ltb, le-ltb}
+use Rattle.std.proofs.Common.{Ordering}
+use Rattle.std.specs.Ordering.{int_cmp}
+use Rattle.std.specs.declared.cmp.Ordering.TheVariants.{Less, Equal, Greater}
 use Rattle.floats.specs.Whole.{signed, Is}
 use Rattle.floats.proofs.Zero.{O, above_zero, below_zero}
 use Rattle.floats.proofs.Half.{no_size, no_number}
 use Rattle.signs.specs.Signs.{sign_z, sign_f}
+use Rattle.signs.specs.declared.Sign.{Sign}
 use Rattle.signs.specs.declared.Sign.TheVariants.{Neg, Zero, Pos}
 
 -- ---- the sign
@@ -46,23 +49,16 @@ sign_neither (fin false zero e) h k = refl
 sign_neither (fin false (suc m) e) h k = absurd (true≢false (sym (lt-ltb 0 (suc m) (zero-lt-suc m)) ∙ sym (above_zero false (suc m) e) ∙ h))
 
 -- ---- the sign of an integer
-pub sign_z_above : (z : ℤ) → lt_z (pos 0) z ≡ true → Pos ≡ sign_z z
-unfolding sign_z
-sign_z_above (pos zero) h = absurd (false≢true h)
-sign_z_above (pos (suc n)) h = refl
-sign_z_above (negsuc n) h = absurd (false≢true h)
+abbrev pub of_ordering : Ordering → Sign
+of_ordering Less = Neg
+of_ordering Equal = Zero
+of_ordering Greater = Pos
 
-pub sign_z_below : (z : ℤ) → lt_z z (pos 0) ≡ true → Neg ≡ sign_z z
+pub sign_cmp : (z : ℤ) → of_ordering (int_cmp z (pos 0)) ≡ sign_z z
 unfolding sign_z
-sign_z_below (pos zero) h = absurd (false≢true h)
-sign_z_below (pos (suc n)) h = absurd (false≢true (sym (le-ltb (suc n) 0 zero-le) ∙ h))
-sign_z_below (negsuc n) h = refl
-
-pub sign_z_neither : (z : ℤ) → lt_z (pos 0) z ≡ false → lt_z z (pos 0) ≡ false → Zero ≡ sign_z z
-unfolding sign_z
-sign_z_neither (pos zero) h k = refl
-sign_z_neither (pos (suc n)) h k = absurd (true≢false (sym (lt-ltb 0 (suc n) (zero-lt-suc n)) ∙ h))
-sign_z_neither (negsuc n) h k = absurd (true≢false k)
+sign_cmp (pos zero) = refl
+sign_cmp (pos (suc n)) = rw (le-ltb (suc n) 0 zero-le, lt-ltb 0 (suc n) (zero-lt-suc n))
+sign_cmp (negsuc n) = refl
 
 -- ---- a float that is a whole number
 pub sign_is : (x : Float) (z : ℤ) → Is x z → sign_f x ≡ sign_z z

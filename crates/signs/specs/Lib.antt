@@ -1,3 +1,4 @@
 pub mod Signs
+pub mod Points
 pub mod Answers
 pub mod Laws

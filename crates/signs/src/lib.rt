@@ -6,19 +6,21 @@
 
 ghost use Rattle.std.specs.Prelude.{◌≡◌, ◌&&◌, [], ◌∷◌, leb, nat_abs};
 ghost use Rattle.algebra.specs.Size.{Small};
-ghost use Rattle.plane.specs.Points.{at};
 ghost use Rattle.plane.specs.Determinants.{orient, incircle};
 ghost use Rattle.signs.specs.Signs.{sign_z, sign_f, flipped, number};
 ghost use Rattle.signs.specs.Answers.{limit, within, orient_answer, circle_answer};
+ghost use Rattle.signs.specs.Points.{pt_of};
+
+use std::cmp::Ordering;
 
 // The largest size of a coordinate, refusal 4's limit.
 pub const LIMIT: i32 = 8192;
 
-#[derive(Drop)]
+#[derive(Clone, Copy, Debug, PartialEq, Eq)]
 pub enum Sign {
-    Neg,
-    Zero,
-    Pos,
+    Neg = -1,
+    Zero = 0,
+    Pos = 1,
 }
 
 impl Sign {
@@ -33,15 +35,14 @@ impl Sign {
     pub fn of_i64(n: i64) -> Sign
         ensures { result ≡ sign_z n }
     {
-        if n > 0 {
-            Sign::Pos
-        } else if n < 0 {
-            Sign::Neg
-        } else {
-            Sign::Zero
+        match n.cmp(&0) {
+            Ordering::Less => Sign::Neg,
+            Ordering::Equal => Sign::Zero,
+            Ordering::Greater => Sign::Pos,
         }
     }
 
+    // Floats have no total order, so two comparisons are plainer than `partial_cmp`, whose `None` would be zero too.
     pub fn of_f64(v: f64) -> Sign
         ensures { result ≡ sign_f v }
     {
@@ -54,6 +55,7 @@ impl Sign {
         }
     }
 
+    // Document 01 names the functions of `Sign`, so this is no `Neg`.
     pub fn flip(self) -> Sign
         ensures { result ≡ flipped self }
     {
@@ -67,86 +69,71 @@ impl Sign {
     pub fn as_i32(self) -> i32
         ensures { result ≡ number self }
     {
-        match self {
-            Sign::Neg => -1,
-            Sign::Zero => 0,
-            Sign::Pos => 1,
-        }
+        self as i32
     }
 }
 
 // ---- whole coordinates
 
-// What a call on whole coordinates answers: the sign, or that a coordinate is beyond the limit.
-#[derive(Drop)]
-pub enum WholeSign {
-    Known(Sign),
-    OutOfRange,
+#[derive(Clone, Copy, Debug, PartialEq, Eq)]
+pub struct Point {
+    pub x: i32,
+    pub y: i32,
 }
 
 fn in_range(x: i32) -> bool
     ensures { result ≡ leb (nat_abs x) limit }
 {
-    if x < -LIMIT {
-        return false;
-    }
-    x <= LIMIT
+    x.unsigned_abs() <= LIMIT as u32
 }
 
 // No coordinate of the point is beyond the limit.
-pub fn within(x: i32, y: i32) -> bool
-    ensures { result ≡ within limit (at x y) }
+pub fn within(p: Point) -> bool
+    ensures { result ≡ within limit (pt_of p) }
 {
-    if in_range(x) { in_range(y) } else { false }
+    in_range(p.x) && in_range(p.y)
 }
 
-fn all_within(ax: i32, ay: i32, bx: i32, by: i32, cx: i32, cy: i32) -> bool
-    ensures { result ≡ within limit (at ax ay) && within limit (at bx by) && within limit (at cx cy) }
+fn all_within(a: Point, b: Point, c: Point) -> bool
+    ensures { result ≡ within limit (pt_of a) && within limit (pt_of b) && within limit (pt_of c) }
 {
-    if within(ax, ay) {
-        if within(bx, by) {
-            within(cx, cy)
-        } else {
-            false
-        }
-    } else {
-        false
-    }
+    within(a) && within(b) && within(c)
 }
 
 // The orientation of a, b, c, for callers that know their coordinates to be within the limit.
-pub fn orient_det(ax: i32, ay: i32, bx: i32, by: i32, cx: i32, cy: i32) -> i64
-    requires { Small limit (ax ∷ ay ∷ bx ∷ by ∷ cx ∷ cy ∷ []) }
-    ensures { result ≡ orient (at ax ay) (at bx by) (at cx cy) }
+pub fn orient_det(a: Point, b: Point, c: Point) -> i64
+    requires { Small limit (a.x ∷ a.y ∷ b.x ∷ b.y ∷ c.x ∷ c.y ∷ []) }
+    ensures { result ≡ orient (pt_of a) (pt_of b) (pt_of c) }
 {
-    let acx = (ax as i64) - (cx as i64);
-    let acy = (ay as i64) - (cy as i64);
-    let bcx = (bx as i64) - (cx as i64);
-    let bcy = (by as i64) - (cy as i64);
+    let acx = (a.x as i64) - (c.x as i64);
+    let acy = (a.y as i64) - (c.y as i64);
+    let bcx = (b.x as i64) - (c.x as i64);
+    let bcy = (b.y as i64) - (c.y as i64);
     acx * bcy - acy * bcx
 }
 
-// The sign of the orientation of a, b, c: positive means counterclockwise.
-pub fn orient_sign(ax: i32, ay: i32, bx: i32, by: i32, cx: i32, cy: i32) -> WholeSign
-    ensures { result ≡ orient_answer limit (at ax ay) (at bx by) (at cx cy) }
+// The sign of the orientation of a, b, c, where no coordinate is beyond the limit: positive means counterclockwise.
+pub fn orient_sign(a: Point, b: Point, c: Point) -> Option<Sign>
+    ensures { result ≡ orient_answer limit (pt_of a) (pt_of b) (pt_of c) }
 {
-    if all_within(ax, ay, bx, by, cx, cy) {
-        WholeSign::Known(Sign::of_i64(orient_det(ax, ay, bx, by, cx, cy)))
+    if all_within(a, b, c) {
+        Some(Sign::of_i64(orient_det(a, b, c)))
     } else {
-        WholeSign::OutOfRange
+        None
     }
 }
 
-fn circle_det(ax: i32, ay: i32, bx: i32, by: i32, cx: i32, cy: i32, dx: i32, dy: i32) -> i64
-    requires { Small limit (ax ∷ ay ∷ bx ∷ by ∷ cx ∷ cy ∷ dx ∷ dy ∷ []) }
-    ensures { result ≡ incircle (at ax ay) (at bx by) (at cx cy) (at dx dy) }
+// Its twin over floats, float_signs::incircle_det, keeps the original's order of operations, which rounds.
+fn circle_det(a: Point, b: Point, c: Point, d: Point) -> i64
+    requires { Small limit (a.x ∷ a.y ∷ b.x ∷ b.y ∷ c.x ∷ c.y ∷ d.x ∷ d.y ∷ []) }
+    ensures { result ≡ incircle (pt_of a) (pt_of b) (pt_of c) (pt_of d) }
 {
-    let adx = (ax as i64) - (dx as i64);
-    let ady = (ay as i64) - (dy as i64);
-    let bdx = (bx as i64) - (dx as i64);
-    let bdy = (by as i64) - (dy as i64);
-    let cdx = (cx as i64) - (dx as i64);
-    let cdy = (cy as i64) - (dy as i64);
+    let adx = (a.x as i64) - (d.x as i64);
+    let ady = (a.y as i64) - (d.y as i64);
+    let bdx = (b.x as i64) - (d.x as i64);
+    let bdy = (b.y as i64) - (d.y as i64);
+    let cdx = (c.x as i64) - (d.x as i64);
+    let cdy = (c.y as i64) - (d.y as i64);
     let alift = adx * adx + ady * ady;
     let blift = bdx * bdx + bdy * bdy;
     let clift = cdx * cdx + cdy * cdy;
@@ -157,33 +144,21 @@ fn circle_det(ax: i32, ay: i32, bx: i32, by: i32, cx: i32, cy: i32, dx: i32, dy:
 }
 
 // The circle's whole work: the one place that another way to its sign would change.
-fn circle_work(ax: i32, ay: i32, bx: i32, by: i32, cx: i32, cy: i32, dx: i32, dy: i32) -> Sign
-    requires { Small limit (ax ∷ ay ∷ bx ∷ by ∷ cx ∷ cy ∷ dx ∷ dy ∷ []) }
-    ensures { result ≡ sign_z (incircle (at ax ay) (at bx by) (at cx cy) (at dx dy)) }
+fn circle_work(a: Point, b: Point, c: Point, d: Point) -> Sign
+    requires { Small limit (a.x ∷ a.y ∷ b.x ∷ b.y ∷ c.x ∷ c.y ∷ d.x ∷ d.y ∷ []) }
+    ensures { result ≡ sign_z (incircle (pt_of a) (pt_of b) (pt_of c) (pt_of d)) }
 {
-    Sign::of_i64(circle_det(ax, ay, bx, by, cx, cy, dx, dy))
+    Sign::of_i64(circle_det(a, b, c, d))
 }
 
-// The circle sign of a, b, c and d: for counterclockwise a, b, c, positive means that d is strictly inside their circle.
-pub fn circle_sign(
-    ax: i32,
-    ay: i32,
-    bx: i32,
-    by: i32,
-    cx: i32,
-    cy: i32,
-    dx: i32,
-    dy: i32,
-) -> WholeSign
-    ensures { result ≡ circle_answer limit (at ax ay) (at bx by) (at cx cy) (at dx dy) }
+// The circle sign of a, b, c and d, where no coordinate is beyond the limit: for counterclockwise a, b, c, positive means that d is
+// strictly inside their circle.
+pub fn circle_sign(a: Point, b: Point, c: Point, d: Point) -> Option<Sign>
+    ensures { result ≡ circle_answer limit (pt_of a) (pt_of b) (pt_of c) (pt_of d) }
 {
-    if all_within(ax, ay, bx, by, cx, cy) {
-        if within(dx, dy) {
-            WholeSign::Known(circle_work(ax, ay, bx, by, cx, cy, dx, dy))
-        } else {
-            WholeSign::OutOfRange
-        }
+    if all_within(a, b, c) && within(d) {
+        Some(circle_work(a, b, c, d))
     } else {
-        WholeSign::OutOfRange
+        None
     }
 }

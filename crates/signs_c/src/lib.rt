@@ -1,5 +1,5 @@
-// The calls of crates signs and float_signs for programs in other languages, by numbers alone: the static library that the comparison
-// with the original links.
+// The calls of crates signs and float_signs for programs in other languages, by numbers alone, as the C interface asks: the static library
+// that the comparison with the original links. So each call stays as it is, with its numbers, though exports has the two signs too.
 #![tactic(auto)]
 
 ghost use Rattle.std.specs.Prelude.{◌≡◌};
@@ -10,8 +10,8 @@ ghost use Rattle.float_signs.specs.Intake.{intake_of, intake_number, intake_leav
 ghost use Rattle.float_signs.specs.Parts.{decomp_of, is_finite, mantissa_or, exponent_or};
 ghost use Rattle.float_signs.specs.Filter.{vec, orient_filter, circle_f, filter_number};
 
-use float_signs::{Dyadic, Filtered, Intake, Vec2};
-use signs::Sign;
+use float_signs::{Intake, Vec2};
+use signs::{Point, Sign};
 
 // -1, 0 or 1
 #[unsafe(no_mangle)]
@@ -26,7 +26,10 @@ pub extern "C" fn signs_of_f64(v: f64) -> i32
 pub extern "C" fn signs_orient(ax: i32, ay: i32, bx: i32, by: i32, cx: i32, cy: i32) -> i32
     ensures { result ≡ whole_number (orient_answer limit (at ax ay) (at bx by) (at cx cy)) }
 {
-    sign_numbers::number_of(signs::orient_sign(ax, ay, bx, by, cx, cy))
+    let a = Point { x: ax, y: ay };
+    let b = Point { x: bx, y: by };
+    let c = Point { x: cx, y: cy };
+    sign_numbers::number_of(signs::orient_sign(a, b, c))
 }
 
 // -1, 0, 1, or 2 for out of range
@@ -43,7 +46,11 @@ pub extern "C" fn signs_circle(
 ) -> i32
     ensures { result ≡ whole_number (circle_answer limit (at ax ay) (at bx by) (at cx cy) (at dx dy)) }
 {
-    sign_numbers::number_of(signs::circle_sign(ax, ay, bx, by, cx, cy, dx, dy))
+    let a = Point { x: ax, y: ay };
+    let b = Point { x: bx, y: by };
+    let c = Point { x: cx, y: cy };
+    let d = Point { x: dx, y: dy };
+    sign_numbers::number_of(signs::circle_sign(a, b, c, d))
 }
 
 // 0 with the whole number, or 1 for not finite, 2 for too large, 3 for a fraction, and then the number stays
@@ -51,8 +58,7 @@ pub extern "C" fn signs_circle(
 pub extern "C" fn signs_take_in(v: f64, whole: &mut i32) -> i32
     ensures { (result ≡ intake_number (intake_of v)) × (whole.new ≡ intake_leaves (intake_of v) whole.old) }
 {
-    let answer = float_signs::take_in(v);
-    match answer {
+    match float_signs::take_in(v) {
         Intake::Whole(z) => {
             *whole = z;
             0
@@ -68,14 +74,13 @@ pub extern "C" fn signs_take_in(v: f64, whole: &mut i32) -> i32
 pub extern "C" fn signs_decomp(v: f64, m: &mut i64, e: &mut i32) -> bool
     ensures { (result ≡ is_finite (decomp_of v)) × (m.new ≡ mantissa_or (decomp_of v) m.old) × (e.new ≡ exponent_or (decomp_of v) e.old) }
 {
-    let answer = float_signs::decomp(v);
-    match answer {
-        Dyadic::Parts(mantissa, exponent) => {
-            *m = mantissa;
-            *e = exponent;
+    match float_signs::decomp(v) {
+        Some(d) => {
+            *m = d.mantissa;
+            *e = d.exponent;
             true
         }
-        Dyadic::NotFinite => false,
+        None => false,
     }
 }
 
@@ -87,10 +92,9 @@ pub extern "C" fn signs_orient2d_filter(ax: f64, ay: f64, bx: f64, by: f64, cx: 
     let a = Vec2 { x: ax, y: ay };
     let b = Vec2 { x: bx, y: by };
     let c = Vec2 { x: cx, y: cy };
-    let answer = float_signs::orient2d_filter(a, b, c);
-    match answer {
-        Filtered::Sure(s) => s.as_i32(),
-        Filtered::Unsure => 2,
+    match float_signs::orient2d_filter(a, b, c) {
+        Some(s) => s.as_i32(),
+        None => 2,
     }
 }
 

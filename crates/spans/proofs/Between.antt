@@ -5,9 +5,9 @@ use mathlib.Core.Bool.{Bool, true, false, not, false≢true}
 use mathlib.Core.List.{List, [], ◌∷◌}
 use mathlib.Core.Logic.{◌⊎◌, inl, inr}
 use Prim.Native.Nat.{ℕ, ◌+◌, ◌≤◌, ◌<◌}
-use native.Mathlib.Decide.{ℕ_discrete}
 use native.Mathlib.Omega.{arith}
 use lib.Dec.{T}
+use Rattle.std.specs.Bool.{MatchBool}
 use lib.IntN.{ℤ, pos, neg_ℤ, ◌-ℤ◌, ◌*ℤ◌}
 use lib.Signed.{le_z, ◌<ℤ◌, clash_ℤ}
 use borrow.Author.Tests.{eq-eqb, eqb-true}
@@ -129,47 +129,33 @@ amid a b p e = go (order a p) (order p b)
 abbrev pub inside : List ℤ → ℕ → ℕ → ℕ → Bool
 inside ps a b i = in_segment (point ps a) (point ps b) (point ps i)
 
--- No point whose rank is above lo and below r is inside the segment.
-abbrev pub Tried : List ℤ → List ℕ → ℕ → ℕ → ℕ → ℕ → Type 0
-Tried ps w a b lo r = (k : ℕ) → lo < k → k < r → inside ps a b (at_rank (point_count ps) w k) ≡ false
+module _ (ps : List ℤ) (w : List ℕ) (a b lo hi : ℕ) (o : Ordered ps w) (fig : Figure ps) (ends : (a < point_count ps) × (b < point_count ps) × (hi < point_count ps))
+    (spread : (lo ≤ rank ps a) × (lo ≤ rank ps b) × (rank ps a ≤ hi) × (rank ps b ≤ hi)) where
+  -- The point of a point's rank is the point.
+  back : (i : ℕ) → i < point_count ps → at_rank (point_count ps) w (rank ps i) ≡ i
+  back i l =
+      let n = point_count ps in
+      let k = rank_below ps i l in
+      let j = at_rank n w (rank ps i) in
+      let e = eq-eqb (rank ps j) (rank ps i) (o.places (rank ps i) k) in
+      eqb-true j i (sym (rank_only ps (all_differ ps n fig.distinct) j i (o.small (rank ps i) k) l) ∙ e)
 
-module _ (ps : List ℤ) (w : List ℕ) (a b lo : ℕ) where
-  pub next : {t : Bool} (r : ℕ) → Tried ps w a b lo r → t ≡ inside ps a b (at_rank (point_count ps) w r) → t ≡ false → Tried ps w a b lo (r + 1)
-  next r s e f k h l = go (ℕ_discrete k r)
+  -- The ends' ranks are from lo to hi, and no point whose rank is between these is inside: so no point is.
+  outside : ((r : ℕ) → lo + 1 ≤ r → r < hi → inside ps a b (at_rank (point_count ps) w r) ≡ false) → (i : ℕ) → i < point_count ps → inside ps a b i ≡ false
+  outside s i l = by_test (inside ps a b i) (λ e. tried (go (amid (point ps a) (point ps b) (point ps i) e))) (λ e. e)
     where
-      go : Dec (k ≡ r) → inside ps a b (at_rank (point_count ps) w k) ≡ false
-      go (yes i) = ap (λ (j : ℕ). inside ps a b (at_rank (point_count ps) w j)) i ∙ sym e ∙ f
-      go (no i) = s k h (omega arith)
+      tried : (lo < rank ps i) × (rank ps i < hi) → inside ps a b i ≡ false
+      tried (u, v) = ap (inside ps a b) (sym (back i l)) ∙ s (rank ps i) (omega arith) v
 
-  module _ (o : Ordered ps w) where
-    pub found : {t : Bool} (r : ℕ) → r < point_count ps → t ≡ inside ps a b (at_rank (point_count ps) w r) → t ≡ true →
-        true ≡ any_to (point_count ps) (inside ps a b)
-    found r l e f = sym (any_at (inside ps a b) (point_count ps) (at_rank (point_count ps) w r) (o.small r l) (sym e ∙ f))
+      up : (j k : ℕ) → j < point_count ps → T (before (point ps j) (point ps k)) → rank ps j < rank ps k
+      up j k m t = rank_lt ps j k m (T_true _ t)
 
-    module _ (fig : Figure ps) (la : a < point_count ps) (lb : b < point_count ps) where
-      -- The point of a point's rank is the point.
-      back : (i : ℕ) → i < point_count ps → at_rank (point_count ps) w (rank ps i) ≡ i
-      back i l =
-          let n = point_count ps in
-          let k = rank_below ps i l in
-          let j = at_rank n w (rank ps i) in
-          let e = eq-eqb (rank ps j) (rank ps i) (o.places (rank ps i) k) in
-          eqb-true j i (sym (rank_only ps (all_differ ps n fig.distinct) j i (o.small (rank ps i) k) l) ∙ e)
+      go : Amid (point ps a) (point ps b) (point ps i) → (lo < rank ps i) × (rank ps i < hi)
+      go (inl (x, y)) = let p = up a i ends.0 x in let q = up i b l y in (omega (arith, spread.0, spread.3, p, q), omega (arith, spread.0, spread.3, p, q))
+      go (inr (x, y)) = let p = up b i ends.1 x in let q = up i a l y in (omega (arith, spread.1, spread.2, p, q), omega (arith, spread.1, spread.2, p, q))
 
-      -- The ends' ranks are from lo to hi, and no point whose rank is between these is inside: so no point is.
-      pub ended : (r hi : ℕ) → Tried ps w a b lo r → hi ≤ r → (lo ≤ rank ps a) × (lo ≤ rank ps b) × (rank ps a ≤ hi) × (rank ps b ≤ hi) →
-          false ≡ any_to (point_count ps) (inside ps a b)
-      ended r hi s h (a_low, b_low, a-high, b-high) = sym (any_no (inside ps a b) (point_count ps) out)
-        where
-          out : (i : ℕ) → i < point_count ps → inside ps a b i ≡ false
-          out i l = by_test (inside ps a b i) (λ e. tried (go (amid (point ps a) (point ps b) (point ps i) e))) (λ e. e)
-            where
-              tried : (lo < rank ps i) × (rank ps i < hi) → inside ps a b i ≡ false
-              tried (u, v) = ap (inside ps a b) (sym (back i l)) ∙ s (rank ps i) u (omega arith)
-
-              up : (j k : ℕ) → j < point_count ps → T (before (point ps j) (point ps k)) → rank ps j < rank ps k
-              up j k m t = rank_lt ps j k m (T_true _ t)
-
-              go : Amid (point ps a) (point ps b) (point ps i) → (lo < rank ps i) × (rank ps i < hi)
-              go (inl (x, y)) = let p = up a i la x in let q = up i b l y in (omega arith, omega arith)
-              go (inr (x, y)) = let p = up b i lb x in let q = up i a l y in (omega arith, omega arith)
+  -- Some point whose rank is between lo and hi is inside, or none is: the answer is that of all points.
+  pub by_rank : (t : Bool) → MatchBool t ((r : ℕ) × (lo + 1 ≤ r) × (r < hi) × (inside ps a b (at_rank (point_count ps) w r) ≡ true)) ((r : ℕ) → lo + 1 ≤ r → r < hi → inside ps a b (at_rank (point_count ps) w r) ≡ false)
+      → t ≡ any_to (point_count ps) (inside ps a b)
+  by_rank true h = sym (any_at (inside ps a b) (point_count ps) (at_rank (point_count ps) w h.0) (o.small h.0 (omega (arith, h.2, ends.2))) h.3)
+  by_rank false h = sym (any_no (inside ps a b) (point_count ps) (outside h))

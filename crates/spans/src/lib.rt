@@ -14,8 +14,6 @@ ghost use Rattle.tables.specs.Rules.{rank};
 ghost use Rattle.ranks.specs.Ranked.{Ordered};
 ghost use Rattle.pair_checks.specs.Ends.{Ends};
 
-use tables::Lowest;
-
 // Some point lies strictly inside the segment from a to b. The ranks of both are from lo to hi, so only the ranks between are tried.
 fn holds_point(points: &[i32], work: &[u32], a: usize, b: usize, lo: usize, hi: usize) -> bool
     requires figure { Figure points.now }
@@ -25,13 +23,10 @@ fn holds_point(points: &[i32], work: &[u32], a: usize, b: usize, lo: usize, hi: 
     ensures { result ≡ any_to (point_count points.now) (λ i. in_segment (point points.now a) (point points.now b) (point points.now i)) }
 {
     let n = points.len() / 2;
-    for r in lo + 1..hi {
+    (lo + 1..hi).any(|r| {
         let i = work[32 * n + 3 * r + 2] as usize;
-        if crossings::in_segment(points, a, b, i) {
-            return true;
-        }
-    }
-    false
+        crossings::in_segment(points, a, b, i)
+    })
 }
 
 fn is_blocked(points: &[i32], pairs: &[u32], work: &[u32], k: usize) -> bool
@@ -53,17 +48,11 @@ fn is_blocked(points: &[i32], pairs: &[u32], work: &[u32], k: usize) -> bool
 }
 
 // The lowest pair with a point strictly inside its segment.
-pub fn blocked_pair(points: &[i32], pairs: &[u32], work: &[u32]) -> Lowest
+pub fn blocked_pair(points: &[i32], pairs: &[u32], work: &[u32]) -> Option<usize>
     requires figure { Figure points.now }
     requires ends { Ends points.now pairs.now }
     requires ordered { Ordered points.now work.now × (64 * point_count points.now ≤ length work.now) }
     ensures { result ≡ lowest (pair_count pairs.now) (blocked points.now pairs.now) }
 {
-    let m = pairs.len() / 2;
-    for k in 0..m {
-        if is_blocked(points, pairs, work, k) {
-            return Lowest::At(k);
-        }
-    }
-    Lowest::Nowhere
+    (0..pairs.len() / 2).find(|&k| is_blocked(points, pairs, work, k))
 }

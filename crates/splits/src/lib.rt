@@ -1,5 +1,7 @@
 // The splits of one triangle, at a point inside it and at a point on a side of the base, in the lent working area. Crate nets says in
 // specs/Layout what each makes of the list, and in specs/Steps what each makes of the net.
+//
+// The lent area stays one list of numbers with places in it: the rule of fixed memory asks for it, and crate nets fixes the layout.
 #![tactic(auto)]
 
 ghost use Rattle.std.specs.Prelude.{◌≡◌, ◌+◌, ◌*◌, ◌≤◌, ◌<◌, length};

@@ -11,12 +11,11 @@ use Rattle.algebra.specs.Tests.{eq_z}
 use Rattle.plane.specs.Determinants.{orient}
 use Rattle.plane.specs.Halfedges.{nxt}
 use Rattle.plane.specs.Points.{Pt}
-use Rattle.tables.specs.Data.{point_count, point, base}
+use Rattle.tables.specs.Data.{point_count, point}
 use Rattle.nets.specs.Layout.{cell, net_of, flag_cell, stack_cell, inside_list, side_list, edge_list, InRange, Kept}
-use Rattle.nets.specs.Location.{Split, inside_split, one_side, both_sides, edge_case, place_case, earlier, along, or_else, edge_at, split_in}
+use Rattle.nets.specs.Location.{inside_split, one_side, both_sides, edge_case, place_case, earlier, along, or_else, edge_at, split_in}
 use Rattle.nets.specs.Nets.{Net}
-use Rattle.nets.specs.Tilings.{Tiling}
-use Rattle.nets.proofs.FlipTile.{tile_apart, far}
+use Rattle.nets.proofs.FlipTile.{tile_apart}
 use Rattle.nets.proofs.Flip.{same_slot}
 use Rattle.nets.proofs.Keeps.{kept_set, kept_then, kept_same, inside_kept, side_kept, edge_kept}
 use Rattle.nets.proofs.Places.{net_set, tiling_range, inside_net, side_net, edge_net}
@@ -208,7 +207,7 @@ module _ {ps : List ℤ} {k : ℕ} {w : List ℕ} {T : ℕ} (d : Tiled ps k w T)
         ((h < 3 * T) × (g < 3 * T) × (k < 4096) × (16 * k + 16 ≤ length w) × (16 * (T + 2) ≤ length w) × (T + 2 ≤ 8192) × (64 ≤ length w))
     edge_asked h g hb gb = (in_range, (hb, gb, let f = d.figure.few in omega arith, let r = d.room in omega arith, more2, slots, let l = long in omega arith))
 
-    module _ (t : ℕ) (tb : t < T) (on : ℕ) (is : on ≡ edge_at P m (P k) t) where
+    module _ (t : ℕ) (tb : t < T) where
       -- the half-edge is one of the slot
       along_low : (h x : ℕ) → h < 3 * T → along P m (P k) h ≡ suc x → x < 3 * T
       along_low h x b e =
@@ -220,58 +219,49 @@ module _ {ps : List ℤ} {k : ℕ} {w : List ℕ} {T : ℕ} (d : Tiled ps k w T)
       or_low zero b x f g e = g x e
       or_low (suc a) b x f g e = f x e
 
-      pub edge_low : ¬ (on ≡ 0) → on - 1 < 3 * T
+      pub edge_low : {h : ℕ} → suc h ≡ edge_at P m (P k) t → h < 3 * T
       unfolding edge_at
-      edge_low z =
-          or_low (along P m (P k) (3 * t)) (or_else (along P m (P k) (3 * t + 1)) (along P m (P k) (3 * t + 2))) (on - 1) (λ x. along_low (3 * t) x (omega arith))
+      edge_low {h} is =
+          or_low (along P m (P k) (3 * t)) (or_else (along P m (P k) (3 * t + 1)) (along P m (P k) (3 * t + 2))) h (λ x. along_low (3 * t) x (omega arith))
           (λ x. or_low (along P m (P k) (3 * t + 1)) (along P m (P k) (3 * t + 2)) x (λ x. along_low (3 * t + 1) x (omega arith)) (λ x. along_low (3 * t + 2) x (omega arith)))
-          (sym is ∙ (let e : on ≡ suc (on - 1) = omega arith in e))
+          (sym is)
 
-      pub half_asked : ¬ (on ≡ 0) → (on - 1 < 24576) × (16 * ((on - 1) / 3) + 16 ≤ length w)
-      half_asked z = let l = edge_low z in let s = slots in let r = more1 in (omega arith, omega arith)
+      pub half_asked : {h : ℕ} → suc h ≡ edge_at P m (P k) t → (h < 24576) × (16 * (h / 3) + 16 ≤ length w)
+      half_asked is = let l = edge_low is in let s = slots in let r = more1 in (omega arith, omega arith)
 
-      pub at_inside : {w' : List ℕ} → on ≡ 0 → w' ≡ inside_pushed w T t k → Grown ps w (split_in P m t k) w' (T + 2) 3
+      pub at_inside : {w' : List ℕ} → 0 ≡ edge_at P m (P k) t → w' ≡ inside_pushed w T t k → Grown ps w (split_in P m t k) w' (T + 2) 3
       unfolding split_in
-      at_inside {w'} z e =
-          subst (λ (x : ℕ). Grown ps w (place_case m t x k) w' (T + 2) 3) (sym z ∙ is)
+      at_inside {w'} is e =
+          subst (λ (x : ℕ). Grown ps w (place_case m t x k) w' (T + 2) 3) is
           (subst (λ (u : List ℕ). Grown ps w (inside_split m t k) u (T + 2) 3) (sym e) (inside_grown t tb))
 
-      module _ (nz : ¬ (on ≡ 0)) (a : ℕ) (at : a ≡ get_or w (cell 3 (on - 1)) 0) where
-        abbrev h : ℕ
-        h = on - 1
-
-        place : (x : ℕ) → on ≡ suc x → x ≡ on - 1
-        place x e = omega arith
-
-        at_h : edge_at P m (P k) t ≡ suc h
-        at_h = sym is ∙ (let e : on ≡ suc (on - 1) = omega arith in e)
-
+      module _ (h : ℕ) (is : suc h ≡ edge_at P m (P k) t) (a : ℕ) (at : a ≡ get_or w (cell 3 h) 0) where
         across : m.adj h ≡ a
         unfolding net_of
         across = sym at
 
         pub across_low : ¬ (a ≡ 0) → a - 1 < 3 * T
         unfolding net_of
-        across_low z = d.tile.linked.low h (a - 1) (edge_low nz) (across ∙ (let e : a ≡ suc (a - 1) = omega arith in e))
+        across_low z = d.tile.linked.low h (a - 1) (edge_low is) (across ∙ (let e : a ≡ suc (a - 1) = omega arith in e))
 
         pub at_side : {w' : List ℕ} → a ≡ 0 → w' ≡ side_pushed w T h k → Grown ps w (split_in P m t k) w' (T + 1) 2
         unfolding split_in
         at_side {w'} z e =
-            subst (λ (x : ℕ). Grown ps w (place_case m t x k) w' (T + 1) 2) (sym at_h)
+            subst (λ (x : ℕ). Grown ps w (place_case m t x k) w' (T + 1) 2) is
             (subst (λ (x : ℕ). Grown ps w (edge_case m h x k) w' (T + 1) 2) (sym (across ∙ z))
-            (subst (λ (u : List ℕ). Grown ps w (one_side m h k) u (T + 1) 2) (sym e) (side_grown h (edge_low nz))))
+            (subst (λ (u : List ℕ). Grown ps w (one_side m h k) u (T + 1) 2) (sym e) (side_grown h (edge_low is))))
 
         pub at_edge : {w' : List ℕ} → ¬ (a ≡ 0) → w' ≡ cond (earlier m ((a - 1) / 3) (h / 3)) (edge_pushed w T (a - 1) h k) (edge_pushed w T h (a - 1) k) → Grown ps w (split_in P m t k) w' (T + 2) 4
         unfolding split_in
         at_edge {w'} z e =
-            subst (λ (x : ℕ). Grown ps w (place_case m t x k) w' (T + 2) 4) (sym at_h)
+            subst (λ (x : ℕ). Grown ps w (place_case m t x k) w' (T + 2) 4) is
             (subst (λ (x : ℕ). Grown ps w (edge_case m h x k) w' (T + 2) 4) (sym pair)
             (by_test (earlier m (g / 3) (h / 3))
             (λ y. subst (λ (b : Bool). Grown ps w (cond b (both_sides m g h k) (both_sides m h g k)) w' (T + 2) 4) (sym y)
             (subst (λ (u : List ℕ). Grown ps w (both_sides m g h k) u (T + 2) 4) (sym (e ∙ ap (λ (b : Bool). cond b (edge_pushed w T g h k) (edge_pushed w T h g k)) y)) (edge_grown g h gb back)))
             (λ y. subst (λ (b : Bool). Grown ps w (cond b (both_sides m g h k) (both_sides m h g k)) w' (T + 2) 4) (sym y)
             (subst (λ (u : List ℕ). Grown ps w (both_sides m h g k) u (T + 2) 4)
-            (sym (e ∙ ap (λ (b : Bool). cond b (edge_pushed w T g h k) (edge_pushed w T h g k)) y)) (edge_grown h g (edge_low nz) pair)))))
+            (sym (e ∙ ap (λ (b : Bool). cond b (edge_pushed w T g h k) (edge_pushed w T h g k)) y)) (edge_grown h g (edge_low is) pair)))))
           where
             g : ℕ
             g = a - 1
@@ -283,4 +273,4 @@ module _ {ps : List ℤ} {k : ℕ} {w : List ℕ} {T : ℕ} (d : Tiled ps k w T)
             pair = across ∙ (let e : a ≡ suc (a - 1) = omega arith in e)
 
             back : m.adj g ≡ suc h
-            back = mate_back h g (edge_low nz) pair
+            back = mate_back h g (edge_low is) pair

@@ -1,9 +1,9 @@
 -- What a point leaves in the working area: the split that it asks for, with the new triangles as suspects. Definitions only.
-use Rattle.std.specs.Prelude.{List, ◌≡◌, ℕ, suc, ◌+◌, ◌*◌, ◌/◌, ◌<◌, ◌≤◌, ℤ, length}
+use Rattle.std.specs.Prelude.{List, ◌≡◌, ℕ, suc, ◌+◌, ◌*◌, ◌/◌, ◌≤◌, ℤ, length}
 use Rattle.tables.specs.Data.{point_count, point, base}
 use Rattle.tables.specs.Figures.{Figure}
 use Rattle.nets.specs.Layout.{net_of, inside_list, side_list, edge_list, Kept}
-use Rattle.nets.specs.Location.{Split, split_in}
+use Rattle.nets.specs.Location.{Split}
 use Rattle.nets.specs.Tilings.{Tiling}
 use Rattle.suspects.specs.Stack.{stack, Suspects, pushed}
 

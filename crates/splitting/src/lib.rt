@@ -9,6 +9,7 @@ ghost use Rattle.nets.specs.Location.{earlier, split_in};
 ghost use Rattle.splitting.specs.Splits.{inside_pushed, side_pushed, edge_pushed, Tiled, Grown};
 
 // How many triangles there are after a split, and how many of them are suspects.
+// It has another second count than builder::Progress, so each has its own name.
 #[derive(Drop)]
 pub struct Growth {
     pub count: usize,
@@ -67,15 +68,13 @@ pub fn split_at(points: &[i32], work: &mut [u32], count: usize, t: usize, p: usi
     requires t_lt_count { (t < count) × (p < point_count points.now) }
     ensures { Grown points.now work.old (split_in (point points.now) (net_of work.old count) t p) work.new result.count result.many }
 {
-    let on = location::edge_at(points, work, count, p, t);
-    if on == 0 {
+    let Some(h) = location::edge_at(points, work, count, p, t) else {
         split_interior(work, count, t, p);
         return Growth {
             count: count + 2,
             many: 3,
         };
-    }
-    let h = on - 1;
+    };
     let across = links::partner(work, h) as usize;
     if across == 0 {
         split_side(work, count, h, p);

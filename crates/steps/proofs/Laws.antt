@@ -13,8 +13,11 @@ use Rattle.steps.specs.Seen.{seen, Low}
 
 -- ---- the next ones stand in the same slot
 
-pub near : (h : ℕ) → (nxt h < 3 * (h / 3) + 3) × (prv h < 3 * (h / 3) + 3)
-near h = (omega (arith, nxt_slot h), omega (arith, nxt_slot2 h))
+pub near_next : (h : ℕ) → nxt h < 3 * (h / 3) + 3
+near_next h = omega (arith, nxt_slot h)
+
+pub near_previous : (h : ℕ) → prv h < 3 * (h / 3) + 3
+near_previous h = omega (arith, nxt_slot2 h)
 
 at_0 : (h : ℕ) → cell 0 h ≡ 13 * (h / 3) + h
 unfolding cell

@@ -1,24 +1,18 @@
 // The flip of the building steps, in the lent working area, and the triangle of a half-edge, which each step reads first. Crate nets says
 // in specs/Layout what a step makes of the list, and in specs/Steps what it makes of the net.
+//
+// The lent area stays one list of numbers with places in it: the rule of fixed memory asks for it, and crate nets fixes the layout.
 #![tactic(auto)]
 
 ghost use Rattle.std.specs.Prelude.{◌≡◌, ◌*◌, ◌<◌, length};
 ghost use Rattle.nets.specs.Layout.{flip_list, InRange};
-ghost use Rattle.nets.specs.Nets.{prv};
 ghost use Rattle.steps.specs.Seen.{seen, Low};
 
 use store::Tri;
 
-// The half-edge before h in its triangle.
-fn previous(h: usize) -> usize
-    requires { h < 24576 }
-    ensures { result ≡ prv h }
-{
-    if h % 3 == 0 { h + 2 } else { h - 1 }
-}
-
 // The triangle of half-edge h, turned so that h is its edge 0. Half-edge 3 t + k has its numbers at 16 t + k, which is 13 t more than its
 // own number.
+#[tactic(auto, using(crate::proofs::Laws::near_next, crate::proofs::Laws::near_previous))]
 pub fn seen_from(work: &[u32], count: usize, h: usize) -> Tri
     requires in_range { InRange count work.now }
     requires h_bound { h < 3 * count }
@@ -28,7 +22,7 @@ pub fn seen_from(work: &[u32], count: usize, h: usize) -> Tri
     let b = 13 * (h / 3);
     let i = b + h;
     let j = b + links::next(h);
-    let k = b + previous(h);
+    let k = b + links::previous(h);
     Tri {
         v: [work[i], work[j], work[k]],
         adj: [work[i + 3], work[j + 3], work[k + 3]],

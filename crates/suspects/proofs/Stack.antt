@@ -10,7 +10,7 @@ use lib.ListN.{length, get_or, set, length-set}
 use lib.Seq.{get_or-set_same, get_or-set_other}
 use Rattle.nets.specs.Flipping.{leave}
 use Rattle.nets.specs.Layout.{flag_cell, stack_cell}
-use Rattle.suspects.specs.Stack.{stack, Fresh, Suspects, pushed, Aside, Placed, Closed, Left, Reborn}
+use Rattle.suspects.specs.Stack.{stack, Fresh, Suspects, pushed, Aside, NoneFrom, Closed, Left, Reborn}
 
 -- ---- the stack as a list
 
@@ -156,18 +156,6 @@ module _ (count : ℕ) (w : List ℕ) (m : ℕ) (p : 0 < m) (g : Suspects count 
 
 -- ---- a search
 
-pub placed_start : (w : List ℕ) (m s : ℕ) → (j : ℕ) → m ≤ j → j < m → ¬ (get_or w (stack_cell j) 0 ≡ s)
-placed_start w m s j a b = absurd (let f : ⊥ = omega arith in f)
-
--- one more is tried
-pub placed_down : (w : List ℕ) (m s i : ℕ) → 0 < i → ((j : ℕ) → i ≤ j → j < m → ¬ (get_or w (stack_cell j) 0 ≡ s)) →
-    ¬ (get_or w (stack_cell (i - 1)) 0 ≡ s) → (j : ℕ) → i - 1 ≤ j → j < m → ¬ (get_or w (stack_cell j) 0 ≡ s)
-placed_down w m s i p f n j a b = go (ℕ_discrete j (i - 1))
-  where
-    go : Dec (j ≡ i - 1) → ¬ (get_or w (stack_cell j) 0 ≡ s)
-    go (yes e) = subst (λ (x : ℕ). ¬ (get_or w (stack_cell x) 0 ≡ s)) (sym e) n
-    go (no k) = f j (omega arith) b
-
 -- none is s
 all_fresh : (w : List ℕ) (s m : ℕ) → ((j : ℕ) → j < m → ¬ (get_or w (stack_cell j) 0 ≡ s)) → Fresh s (stack w m)
 unfolding stack Fresh
@@ -182,9 +170,6 @@ below_fresh count w w' k (suc m) g l =
     elim (ℕ_discrete k m) [ yes e ↦ rw e g.2 | no n ↦ below_fresh count w w' k m g.3 (let z : k < m = omega arith in z) ]
 
 -- ---- the gap
-
-pub closed_start : (w : List ℕ) (k : ℕ) → Closed w k (k + 1) w
-closed_start w k = record { len = refl; moved = λ j a b. absurd (let f : ⊥ = omega arith in f); rest = λ c f. refl }
 
 pub closed_more : (w w' : List ℕ) (k j : ℕ) → k ≤ j → 16 * j + 26 < length w → Closed w k (j + 1) w' → Closed w k (j + 1 + 1) (set w' (16 * j + 10) (get_or w' (16 * j + 26) 0))
 closed_more w w' k j l b o = record { len = length-set w' (16 * j + 10) (get_or w' (16 * j + 26) 0) ∙ o.len; moved = moved; rest = rest }
@@ -231,25 +216,21 @@ left_none w m s f = record { len = refl; less = omega arith; stack_is = sym (lea
 pub left_unflagged : (count : ℕ) (w : List ℕ) (m s : ℕ) → Suspects count w (stack w m) → get_or w (flag_cell s) 0 ≡ 0 → Left w m s w m
 left_unflagged count w m s g e = left_none w m s (unflagged count w s (stack w m) g e)
 
-pub left_unplaced : (w : List ℕ) (m s r : ℕ) → Placed w m s r → r ≡ 0 → Left w m s w m
-left_unplaced w m s r p e = left_none w m s (all_fresh w s m (λ j l. p.above j (omega arith) l))
+pub left_unplaced : (w : List ℕ) (m s : ℕ) → NoneFrom w m s 0 → Left w m s w m
+left_unplaced w m s p = left_none w m s (all_fresh w s m (λ j l. p j (omega arith) l))
 
-pub left_closed : (count : ℕ) (w : List ℕ) (m s r : ℕ) → Suspects count w (stack w m) → Placed w m s r → ¬ (r ≡ 0) → (w' : List ℕ) → Closed w (r - 1) m w' → Left w m s w' (m - 1)
-left_closed count w m s r g p n w' o = record {
+pub left_closed : (count : ℕ) (w : List ℕ) (m s k : ℕ) → Suspects count w (stack w m) → (k < m) × (get_or w (stack_cell k) 0 ≡ s) × NoneFrom w m s (k + 1) →
+    (w' : List ℕ) → Closed w k m w' → Left w m s w' (m - 1)
+left_closed count w m s k g (l, here, above) w' o = record {
   len = o.len;
   less = omega arith;
   stack_is =
-      subst (λ (x : ℕ). stack w' (m - 1) ≡ leave s (stack w x)) (let e : suc (m - 1) ≡ m = omega (arith, p.within) in e)
-      (from_k w w' s (r - 1) (λ j a. o.rest (stack_cell j) (λ i b c e. let f : ⊥ = omega arith in f)) here fresh (m - 1)
-      (λ j a b. o.moved j a (omega arith)) (omega (arith, p.within)) (λ j a b. p.above j (omega arith) (omega (arith, p.within))));
+      subst (λ (x : ℕ). stack w' (m - 1) ≡ leave s (stack w x)) (let e : suc (m - 1) ≡ m = omega arith in e)
+      (from_k w w' s k (λ j a. o.rest (stack_cell j) (λ i b c e. let f : ⊥ = omega arith in f)) here
+      (subst (λ (x : ℕ). Fresh x (stack w k)) here (below_fresh count w w k m g l)) (m - 1)
+      (λ j a b. o.moved j a (omega arith)) (omega arith) (λ j a b. above j (omega arith) (omega arith)));
   rest = λ c f. o.rest c (λ j a b. f j (omega arith));
 }
-  where
-    here : get_or w (stack_cell (r - 1)) 0 ≡ s
-    here = p.here (omega arith)
-
-    fresh : Fresh s (stack w (r - 1))
-    fresh = subst (λ (x : ℕ). Fresh x (stack w (r - 1))) here (below_fresh count w w (r - 1) m g (omega (arith, p.within)))
 
 -- ---- a push
 

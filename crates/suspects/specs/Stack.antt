@@ -1,5 +1,5 @@
 -- The stack of suspects in the working area. Crate nets says in specs/Layout where a suspect and a slot's flag stand. Definitions only.
-use Rattle.std.specs.Prelude.{List, [], ◌∷◌, ◌≡◌, ℕ, zero, suc, ◌+◌, ◌-◌, ◌*◌, ◌%◌, ◌<◌, ◌≤◌, length, get_or, set}
+use Rattle.std.specs.Prelude.{Option, MatchOption, List, [], ◌∷◌, ◌≡◌, ℕ, zero, suc, ◌+◌, ◌*◌, ◌%◌, ◌<◌, ◌≤◌, length, get_or, set}
 use Prim.{Unit}
 use Rattle.nets.specs.Flipping.{leave}
 use Rattle.nets.specs.Layout.{flag_cell, stack_cell}
@@ -32,11 +32,13 @@ pub record Aside (count : ℕ) (w w' : List ℕ) : Type 0 where
 
 -- ---- a suspect is taken out
 
--- the search from the top: r is 0 where s is none of the m suspects, and else s is suspect r - 1
-pub record Placed (w : List ℕ) (m s r : ℕ) : Type 0 where
-  pub within : r ≤ m
-  pub above : (j : ℕ) → r ≤ j → j < m → ¬ (get_or w (stack_cell j) 0 ≡ s)
-  pub here : 0 < r → get_or w (stack_cell (r - 1)) 0 ≡ s
+-- none of the suspects from suspect k on is s
+abbrev pub NoneFrom : List ℕ → ℕ → ℕ → ℕ → Type 0
+NoneFrom w m s k = (j : ℕ) → k ≤ j → j < m → ¬ (get_or w (stack_cell j) 0 ≡ s)
+
+-- the search from the top: s is none of the m suspects, or it is suspect k and none above that
+abbrev pub Placed : List ℕ → ℕ → ℕ → Option ℕ → Type 0
+Placed w m s r = MatchOption r (NoneFrom w m s 0) (λ k. (k < m) × (get_or w (stack_cell k) 0 ≡ s) × NoneFrom w m s (k + 1))
 
 -- of m suspects those above suspect k have come down by one
 pub record Closed (w : List ℕ) (k m : ℕ) (w' : List ℕ) : Type 0 where

@@ -1,5 +1,7 @@
 // The stack of suspects in the lent working area, for step 2 of the building steps. Suspect i stands at place 16 i + 10, and a slot that is
 // a suspect has a flag at place 16 s + 9, so that a slot that is none is known without a search.
+//
+// The lent area stays one list of numbers with places in it: the rule of fixed memory asks for it, and crate nets fixes the layout.
 #![tactic(auto)]
 
 ghost use Rattle.std.specs.Prelude.{◌≡◌, ◌+◌, ◌-◌, ◌*◌, ◌≤◌, ◌<◌, length, get_or, set};
@@ -7,6 +9,7 @@ ghost use Rattle.nets.specs.Layout.{flag_cell, stack_cell};
 ghost use Rattle.suspects.specs.Stack.{stack, Fresh, Suspects, pushed, Placed, Closed, Left, Reborn};
 
 // Slot s comes on top of m suspects.
+#[tactic(auto, unfolding(crate::specs::Stack::pushed))]
 pub fn push(work: &mut [u32], m: usize, s: usize)
     requires { (16 * m + 16 ≤ length work.old) × (16 * s + 16 ≤ length work.old) × (s < 8192) × (m ≤ 8192) }
     ensures { work.new ≡ pushed work.old m s }
@@ -25,21 +28,17 @@ pub fn pop(work: &mut [u32], count: usize, m: usize) -> usize
     s
 }
 
-// The place of s among m suspects and 1, or 0 for none. A slot that has to leave was mostly born a short while ago, so the search is from
-// the top.
-fn find(work: &[u32], m: usize, s: usize) -> usize
+// The place of s among m suspects. A slot that has to leave was mostly born a short while ago, so the search is from the top.
+fn find(work: &[u32], m: usize, s: usize) -> Option<usize>
     requires { (16 * m ≤ length work.now) × (m ≤ 8192) }
     ensures { Placed work.now m s result }
 {
-    let mut i = m;
-    while 0 < i {
-        let k = i - 1;
+    for k in (0..m).rev() {
         if work[16 * k + 10] as usize == s {
-            return i;
+            return Some(k);
         }
-        i = k;
     }
-    0
+    None
 }
 
 // Closes the gap that suspect k leaves among m.
@@ -47,10 +46,8 @@ fn close_gap(work: &mut [u32], k: usize, m: usize)
     requires { (16 * m ≤ length work.old) × (m ≤ 8192) × (k < m) }
     ensures { Closed work.old k m work.new }
 {
-    let mut j = k;
-    while j + 1 < m {
+    for j in k..m - 1 {
         work[16 * j + 10] = work[16 * j + 26];
-        j += 1;
     }
 }
 
@@ -63,12 +60,13 @@ fn take_out(work: &mut [u32], count: usize, m: usize, s: usize) -> usize
     if work[16 * s + 9] == 0 {
         return m;
     }
-    let i = find(work, m, s);
-    if i == 0 {
-        return m;
+    match find(work, m, s) {
+        None => m,
+        Some(k) => {
+            close_gap(work, k, m);
+            m - 1
+        }
     }
-    close_gap(work, i - 1, m);
-    m - 1
 }
 
 // After a flip of slots t and n: t is no suspect, and n is perhaps one. Both are born again, n last. The answer is how many there are.

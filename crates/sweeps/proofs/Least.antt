@@ -10,7 +10,9 @@ use borrow.Author.Count.{below_more}
 use lib.IntN.{ℤ}
 use Rattle.algebra.proofs.Tests.{by_test, any_at, any_found}
 use Rattle.tables.specs.Answers.{lowest}
-use Rattle.tables.specs.declared.Lowest.TheVariants.{At, Nowhere}
+use Rattle.std.specs.Prelude.{Option, Some, None, unwrap_or}
+use Rattle.std.specs.Option.{MatchOption}
+use Rattle.std.specs.Bool.{⊤}
 use Rattle.tables.specs.Data.{point_count, pair_count, end_a, end_b, point}
 use Rattle.tables.specs.Figures.{Figure}
 use Rattle.tables.specs.Refusals.{crosses, crossing}
@@ -23,14 +25,22 @@ use Rattle.sweeps.specs.Least.{meet, lowered, Found, Tried, Swept, Together}
 -- ---- pairs that begin together
 
 module _ (w : List ℕ) (at : ℕ) where
-  pub together_one : (p : ℕ) → Together w at p (p + 1)
-  together_one p t h g = let e : t ≡ p = omega arith in rw e
-
-  pub together_more : (p q : ℕ) → Together w at p q → from w at q ≡ from w at p → Together w at p (q + 1)
-  together_more p q o e t h g = below_more (λ t. p ≤ t → from w at t ≡ from w at p) q (λ t g h. o t h g) (λ _. e) t g h
-
   pub together_next : (p e : ℕ) → Together w at p e → Together w at (p + 1) e
   together_next p e o t h g = o t (omega arith) g ∙ sym (o (p + 1) (omega arith) (omega arith))
+
+  behind : (p n : ℕ) → ((k : ℕ) → p + 1 ≤ k → k < n → from w at k ≡ from w at p) → Together w at p n
+  behind p n s t h g = by_place (dec_lt p t)
+    where
+      by_place : Dec (p < t) → from w at t ≡ from w at p
+      by_place (yes l) = s t (omega arith) g
+      by_place (no l) = let e : t ≡ p = omega arith in rw e
+
+  -- The first place behind p whose pair begins elsewhere, or the row's end, is the end of those that begin with the pair at p.
+  pub together_until : (m p : ℕ) (o : Option ℕ) {e : ℕ} → p < m → e ≡ unwrap_or o m
+      → MatchOption o ((k : ℕ) → p + 1 ≤ k → k < m → from w at k ≡ from w at p) (λ i. (p + 1 ≤ i) × (i < m) × ⊤ × ((k : ℕ) → p + 1 ≤ k → k < i → from w at k ≡ from w at p))
+      → (p < e) × (e ≤ m) × Together w at p e
+  together_until m p None h i s = subst (λ e. (p < e) × (e ≤ m) × Together w at p e) (sym i) (h, omega arith, behind p m s)
+  together_until m p (Some q) h i s = subst (λ e. (p < e) × (e ≤ m) × Together w at p e) (sym i) (omega (arith, s.0), omega (arith, s.1), behind p q s.3)
 
 -- ---- what a try answers
 
@@ -38,13 +48,13 @@ module _ (ps : List ℤ) (qs : List ℕ) (a b j k least : ℕ) where
   abbrev cross : Bool
   cross = crosses (point ps a) (point ps b) (point ps (end_a qs k)) (point ps (end_b qs k))
 
-  pub not_tried : least ≤ k → least ≡ lowered ps qs a b j k least
+  not_tried : least ≤ k → least ≡ lowered ps qs a b j k least
   not_tried h = rw (le-ltb k least h)
 
-  pub lower : {t : Bool} {r : ℕ} → k < least → t ≡ cross → t ≡ true → r ≡ max j k → r ≡ lowered ps qs a b j k least
+  lower : {t : Bool} {r : ℕ} → k < least → t ≡ cross → t ≡ true → r ≡ max j k → r ≡ lowered ps qs a b j k least
   lower h e i l = rw (lt-ltb k least h, sym e ∙ i) l
 
-  pub not_lower : {t : Bool} → k < least → t ≡ cross → t ≡ false → least ≡ lowered ps qs a b j k least
+  not_lower : {t : Bool} → k < least → t ≡ cross → t ≡ false → least ≡ lowered ps qs a b j k least
   not_lower h e i = rw (lt-ltb k least h, sym e ∙ i)
 
 -- ---- the pair at one place of the row, tried with those behind it
@@ -224,8 +234,8 @@ module _ (ps : List ℤ) (qs : List ℕ) (fig : Figure ps) (good : Ends ps qs) w
                   let a = o t.0 t.1 s.0 (omega arith) s.1 (both t.0 s.0 t.2 s.2 (meet_turned k x.0 ∙ x.2)) in
                   omega arith
 
-      pub at_least : least < m → At least ≡ lowest m (crossing ps qs)
+      pub at_least : least < m → Some least ≡ lowest m (crossing ps qs)
       at_least h = sym (at_lowest (crossing ps qs) m least h (f.crossed h) (λ k i. none_below k (omega arith) i))
 
-      pub at_none : m ≤ least → Nowhere ≡ lowest m (crossing ps qs)
+      pub at_none : m ≤ least → None ≡ lowest m (crossing ps qs)
       at_none h = sym (nowhere_lowest (crossing ps qs) m (λ k i. none_below k i (omega arith)))

@@ -18,8 +18,6 @@ ghost use Rattle.pair_checks.specs.Ends.{Ends};
 ghost use Rattle.pair_orders.specs.Rows.{Row};
 ghost use Rattle.sweeps.specs.Least.{lowered, Found, Tried, Swept, Together};
 
-use tables::Lowest;
-
 // The first place behind p whose pair begins elsewhere than the pair at p, or the end of the row; it is known if it is behind p.
 fn group_end(work: &[u32], at: usize, m: usize, p: usize, known: usize) -> usize
     requires { (at + 3 * m ≤ length work.now) × (p < m) × (known ≤ m) × Together work.now at p known }
@@ -29,18 +27,12 @@ fn group_end(work: &[u32], at: usize, m: usize, p: usize, known: usize) -> usize
         return known;
     }
     let start = work[at + 3 * p];
-    let mut q = p + 1;
-    while q < m {
-        if work[at + 3 * q] != start {
-            return q;
-        }
-        q += 1;
-    }
-    q
+    (p + 1..m).find(|&q| work[at + 3 * q] != start).unwrap_or(m)
 }
 
 // The pair j from a to b is tried with the pair k. The number of the later one is the least now where they cross, unless k is not below the
 // least.
+// The number of the pairs stands for none here, as `lowered` and `Found` of specs/ have it: a minimum then needs no case of its own.
 fn lowered(
     points: &[i32],
     pairs: &[u32],
@@ -61,7 +53,7 @@ fn lowered(
     let c = pairs[2 * k] as usize;
     let d = pairs[2 * k + 1] as usize;
     if crossings::crosses(points, a, b, c, d) {
-        if j < k { k } else { j }
+        j.max(k)
     } else {
         least
     }
@@ -93,14 +85,12 @@ fn scan(
     let a = pairs[2 * j] as usize;
     let b = pairs[2 * j + 1] as usize;
     let mut kept = least;
-    let mut q = first;
-    while q < m {
+    for q in first..m {
         if end <= work[at + 3 * q] {
             return kept;
         }
         let k = work[at + 3 * q + 2] as usize;
         kept = lowered(points, pairs, a, b, j, k, kept);
-        q += 1;
     }
     kept
 }
@@ -117,17 +107,15 @@ fn sweep(points: &[i32], pairs: &[u32], work: &[u32], at: usize) -> usize
     let m = pairs.len() / 2;
     let mut least = m;
     let mut end = 0;
-    let mut p = 0;
-    while p < m {
+    for p in 0..m {
         end = group_end(work, at, m, p, end);
         least = scan(points, pairs, work, at, p, end, least);
-        p += 1;
     }
     least
 }
 
 // The lowest pair that properly crosses one before it.
-pub fn crossing_pair(points: &[i32], pairs: &[u32], work: &mut [u32]) -> Lowest
+pub fn crossing_pair(points: &[i32], pairs: &[u32], work: &mut [u32]) -> Option<usize>
     requires figure { Figure points.now }
     requires ends { Ends points.now pairs.now }
     requires ordered { Ordered points.now work.old × (64 * point_count points.now ≤ length work.old) × (pair_count pairs.now ≤ 10 * point_count points.now) }
@@ -138,8 +126,5 @@ pub fn crossing_pair(points: &[i32], pairs: &[u32], work: &mut [u32]) -> Lowest
     let m = pairs.len() / 2;
     let n = points.len() / 2;
     let least = sweep(points, pairs, work, 16 * n);
-    if least < m {
-        return Lowest::At(least);
-    }
-    Lowest::Nowhere
+    if least < m { Some(least) } else { None }
 }

@@ -21,8 +21,7 @@ use Rattle.plane.proofs.Orient.{orient_cyc, orient_swap}
 use Rattle.plane.proofs.Sign.{posb_yes, posb_no, not_posb}
 use Rattle.plane.proofs.Test.{Reads, reads_any, reads_eq_z}
 use Rattle.signs.specs.Answers.{limit, within}
-use Rattle.tables.specs.declared.Lowest.{Lowest}
-use Rattle.tables.specs.declared.Lowest.TheVariants.{At, Nowhere}
+use Rattle.std.specs.Prelude.{Option, Some, None}
 use Rattle.tables.specs.Answers.{Paper, yes as good, refuses, breaks, row, row_at, rule, or_else, lowest}
 use Rattle.tables.specs.Data.{point_count, pair_count, point, end_a, end_b, clockwise, base, same}
 use Rattle.tables.specs.Refusals.{bad_counts, short_work, far, no_area, right_of, outside, again, bad_pair, in_segment, blocked, crosses, crossing, rows8to10, rows4to10, rows}
@@ -66,36 +65,36 @@ any_false n f e i l = not_t_false (f i) (λ t. false_not e ((reads_any n (λ i. 
 clash : {X : Type 0} → ◌≡◌ {A = ℕ} 0 1 → X
 clash e = absurd (omega arith)
 
-or_else_nowhere : (a b : Lowest) → or_else a b ≡ Nowhere → (a ≡ Nowhere) × (b ≡ Nowhere)
-or_else_nowhere (At i) b e = (e, cc)
-or_else_nowhere Nowhere b e = (refl, e)
+or_else_nowhere : (a b : Option ℕ) → or_else a b ≡ None → (a ≡ None) × (b ≡ None)
+or_else_nowhere (Some i) b e = (e, cc)
+or_else_nowhere None b e = (refl, e)
 
-test_nowhere : (n : ℕ) (b : Bool) → cond b (At n) Nowhere ≡ Nowhere → b ≡ false
+test_nowhere : (n : ℕ) (b : Bool) → cond b (Some n) None ≡ None → b ≡ false
 test_nowhere n true e = cc
 test_nowhere n false e = refl
 
-test_at : (n i : ℕ) (b : Bool) → cond b (At n) Nowhere ≡ At i → (b ≡ true) × (n ≡ i)
+test_at : (n i : ℕ) (b : Bool) → cond b (Some n) None ≡ Some i → (b ≡ true) × (n ≡ i)
 test_at n i true e = (refl, cc)
 test_at n i false e = (cc, cc)
 
 module _ (f : ℕ → Bool) where
-  pub lowest_nowhere : (n : ℕ) → lowest n f ≡ Nowhere → (i : ℕ) → i < n → f i ≡ false
+  pub lowest_nowhere : (n : ℕ) → lowest n f ≡ None → (i : ℕ) → i < n → f i ≡ false
   unfolding lowest
   lowest_nowhere zero e i l = absurd (not-suc-le-zero l)
   lowest_nowhere (suc n) e i l =
-      let p = or_else_nowhere (lowest n f) (cond (f n) (At n) Nowhere) e in
+      let p = or_else_nowhere (lowest n f) (cond (f n) (Some n) None) e in
       go (lowest_nowhere n p.0) (test_nowhere n (f n) p.1) (dec_lt i n)
     where
       go : ((i : ℕ) → i < n → f i ≡ false) → f n ≡ false → Dec (i < n) → f i ≡ false
       go ih h (yes k) = ih i k
       go ih h (no k) = let q : n ≡ i = omega arith in subst (λ (j : ℕ). f j ≡ false) q h
 
-  pub nowhere_lowest : (n : ℕ) → ((i : ℕ) → i < n → f i ≡ false) → lowest n f ≡ Nowhere
+  pub nowhere_lowest : (n : ℕ) → ((i : ℕ) → i < n → f i ≡ false) → lowest n f ≡ None
   unfolding lowest
   nowhere_lowest zero h = refl
   nowhere_lowest (suc n) h = step (nowhere_lowest n (λ i l. h i (omega arith))) (h n (omega arith))
     where
-      step : lowest n f ≡ Nowhere → f n ≡ false → or_else (lowest n f) (cond (f n) (At n) Nowhere) ≡ Nowhere
+      step : lowest n f ≡ None → f n ≡ false → or_else (lowest n f) (cond (f n) (Some n) None) ≡ None
       step e q = rw (e, q)
 
   -- The index is below n, offends, and is the lowest that does.
@@ -104,7 +103,7 @@ module _ (f : ℕ → Bool) where
     pub offends : f i ≡ true
     pub lower : (j : ℕ) → j < i → f j ≡ false
 
-  pub lowest_at : (n i : ℕ) → lowest n f ≡ At i → LowestAt n i
+  pub lowest_at : (n i : ℕ) → lowest n f ≡ Some i → LowestAt n i
   unfolding lowest
   lowest_at zero i e = clash (cc)
   lowest_at (suc n) i e = go (lowest n f) refl (lowest_at n i)
@@ -112,7 +111,7 @@ module _ (f : ℕ → Bool) where
       more : LowestAt n i → LowestAt (suc n) i
       more r = let l = r.below in record { below = omega arith; offends = r.offends; lower = r.lower }
 
-      last : lowest n f ≡ Nowhere → (f n ≡ true) × (n ≡ i) → LowestAt (suc n) i
+      last : lowest n f ≡ None → (f n ≡ true) × (n ≡ i) → LowestAt (suc n) i
       last q p =
           let k = p.1 in
           record {
@@ -121,23 +120,23 @@ module _ (f : ℕ → Bool) where
             lower = λ j l. lowest_nowhere n q j (omega arith);
           }
 
-      go : (a : Lowest) → lowest n f ≡ a → (lowest n f ≡ At i → LowestAt n i) → LowestAt (suc n) i
-      go (At k) q ih = more (ih (q ∙ (rw q at e)))
-      go Nowhere q ih = last q (test_at n i (f n) (rw q at e))
+      go : (a : Option ℕ) → lowest n f ≡ a → (lowest n f ≡ Some i → LowestAt n i) → LowestAt (suc n) i
+      go (Some k) q ih = more (ih (q ∙ (rw q at e)))
+      go None q ih = last q (test_at n i (f n) (rw q at e))
 
-  pub at_lowest : (n i : ℕ) → i < n → f i ≡ true → ((j : ℕ) → j < i → f j ≡ false) → lowest n f ≡ At i
+  pub at_lowest : (n i : ℕ) → i < n → f i ≡ true → ((j : ℕ) → j < i → f j ≡ false) → lowest n f ≡ Some i
   unfolding lowest
   at_lowest zero i l e h = absurd (not-suc-le-zero l)
   at_lowest (suc n) i l e h = go (at_lowest n i) (dec_lt i n)
     where
-      found : lowest n f ≡ At i → or_else (lowest n f) (cond (f n) (At n) Nowhere) ≡ At i
+      found : lowest n f ≡ Some i → or_else (lowest n f) (cond (f n) (Some n) None) ≡ Some i
       found q = rw q
 
-      last : lowest n f ≡ Nowhere → n ≡ i → f n ≡ true → or_else (lowest n f) (cond (f n) (At n) Nowhere) ≡ At i
+      last : lowest n f ≡ None → n ≡ i → f n ≡ true → or_else (lowest n f) (cond (f n) (Some n) None) ≡ Some i
       last q k d = rw (q, d, k)
 
-      go : (i < n → f i ≡ true → ((j : ℕ) → j < i → f j ≡ false) → lowest n f ≡ At i)
-          → Dec (i < n) → or_else (lowest n f) (cond (f n) (At n) Nowhere) ≡ At i
+      go : (i < n → f i ≡ true → ((j : ℕ) → j < i → f j ≡ false) → lowest n f ≡ Some i)
+          → Dec (i < n) → or_else (lowest n f) (cond (f n) (Some n) None) ≡ Some i
       go ih (yes k) = found (ih k e h)
       go ih (no k) =
           let q : i ≡ n = omega arith in
@@ -149,9 +148,9 @@ pub row_yes : (k : ℕ) (b : Bool) (after : Paper) → row k b after ≡ good �
 row_yes k true after e = (cc, cc)
 row_yes k false after e = (refl, e)
 
-pub row_at_yes : (k : ℕ) (l : Lowest) (after : Paper) → row_at k l after ≡ good → (l ≡ Nowhere) × (after ≡ good)
-row_at_yes k (At i) after e = (cc, cc)
-row_at_yes k Nowhere after e = (refl, e)
+pub row_at_yes : (k : ℕ) (l : Option ℕ) (after : Paper) → row_at k l after ≡ good → (l ≡ None) × (after ≡ good)
+row_at_yes k (Some i) after e = (cc, cc)
+row_at_yes k None after e = (refl, e)
 
 pub rule_yes : (k : ℕ) (b : Bool) (after : Paper) → rule k b after ≡ good → (b ≡ true) × (after ≡ good)
 rule_yes k true after e = (refl, e)
@@ -225,10 +224,10 @@ row_stops k after e = rw e
 pub row_passes : (k : ℕ) {b : Bool} (after : Paper) → b ≡ false → row k b after ≡ after
 row_passes k after e = rw e
 
-pub row_at_stops : (k : ℕ) {l : Lowest} {i : ℕ} (after : Paper) → l ≡ At i → row_at k l after ≡ refuses k i
+pub row_at_stops : (k : ℕ) {l : Option ℕ} {i : ℕ} (after : Paper) → l ≡ Some i → row_at k l after ≡ refuses k i
 row_at_stops k after e = rw e
 
-pub row_at_passes : (k : ℕ) {l : Lowest} (after : Paper) → l ≡ Nowhere → row_at k l after ≡ after
+pub row_at_passes : (k : ℕ) {l : Option ℕ} (after : Paper) → l ≡ None → row_at k l after ≡ after
 row_at_passes k after e = rw e
 
 pub rule_stops : (k : ℕ) {b : Bool} (after : Paper) → b ≡ false → rule k b after ≡ breaks k
@@ -240,11 +239,11 @@ rule_passes k after e = rw e
 -- ---- the table's order: the answer is the first row that offends
 
 -- A test with no place is a row whose place is 0.
-abbrev pub once : Bool → Lowest
-once offends = cond offends (At 0) Nowhere
+abbrev pub once : Bool → Option ℕ
+once offends = cond offends (Some 0) None
 
 -- These are rows 1 to 10 in the table's order.
-abbrev pub ordered_rows : Bool → Bool → List ℤ → List ℕ → List Lowest
+abbrev pub ordered_rows : Bool → Bool → List ℤ → List ℕ → List (Option ℕ)
 ordered_rows odd short ps qs =
     once (not (eqb (length ps % 2) 0) || not (eqb (length qs % 2) 0) || odd)
     ∷ once (bad_counts (point_count ps) (pair_count qs))
@@ -259,7 +258,7 @@ ordered_rows odd short ps qs =
     ∷ []
 
 -- This is the answer of the first of them that offends, where they are numbered from k on.
-unfoldable pub first_of : ℕ → List Lowest → Paper
+unfoldable pub first_of : ℕ → List (Option ℕ) → Paper
 first_of k [] = good
 first_of k (l ∷ ls) = row_at k l (first_of (suc k) ls)
 
@@ -274,26 +273,26 @@ in_order odd short ps qs =
     plain k false e = e
 
 -- Of these rows, row j offends at the place i, and no row before it offends.
-pub record First (ls : List Lowest) (j i : ℕ) : Type 0 where
-  pub offends : get_or ls j Nowhere ≡ At i
-  pub silent_before : (m : ℕ) → m < j → get_or ls m Nowhere ≡ Nowhere
+pub record First (ls : List (Option ℕ)) (j i : ℕ) : Type 0 where
+  pub offends : get_or ls j None ≡ Some i
+  pub silent_before : (m : ℕ) → m < j → get_or ls m None ≡ None
 
-first_row : (k : ℕ) (ls : List Lowest) (m i : ℕ) → first_of k ls ≡ refuses m i → (j : ℕ) × (m ≡ k + j) × First ls j i
+first_row : (k : ℕ) (ls : List (Option ℕ)) (m i : ℕ) → first_of k ls ≡ refuses m i → (j : ℕ) × (m ≡ k + j) × First ls j i
 unfolding first_of
 first_row k [] m i e = clash (cc)
-first_row k (At a ∷ ls) m i e =
+first_row k (Some a ∷ ls) m i e =
     let p : k ≡ m = cc in
     (0, omega arith, record { offends = cc; silent_before = λ m l. absurd (not-suc-le-zero l) })
-first_row k (Nowhere ∷ ls) m i e = later (first_row (suc k) ls m i e)
+first_row k (None ∷ ls) m i e = later (first_row (suc k) ls m i e)
   where
-    later : (j : ℕ) × (m ≡ suc k + j) × First ls j i → (j : ℕ) × (m ≡ k + j) × First (Nowhere ∷ ls) j i
+    later : (j : ℕ) × (m ≡ suc k + j) × First ls j i → (j : ℕ) × (m ≡ k + j) × First (None ∷ ls) j i
     later r = let p = r.1 in (suc r.0, omega arith, record { offends = r.2.offends; silent_before = before r.0 r.2.silent_before })
       where
-        before : (j : ℕ) → ((m : ℕ) → m < j → get_or ls m Nowhere ≡ Nowhere) → (m : ℕ) → m < suc j → get_or (Nowhere ∷ ls) m Nowhere ≡ Nowhere
+        before : (j : ℕ) → ((m : ℕ) → m < j → get_or ls m None ≡ None) → (m : ℕ) → m < suc j → get_or (None ∷ ls) m None ≡ None
         before j h zero l = refl
         before j h (suc m) l = h m (omega arith)
 
-row_first : (k : ℕ) (ls : List Lowest) (j i : ℕ) → First ls j i → first_of k ls ≡ refuses (k + j) i
+row_first : (k : ℕ) (ls : List (Option ℕ)) (j i : ℕ) → First ls j i → first_of k ls ≡ refuses (k + j) i
 unfolding first_of
 row_first k [] j i r = let e = r.offends in clash (cc)
 row_first k (l ∷ ls) zero i r = let q : k + 0 ≡ k = omega arith in rw (r.offends, q)

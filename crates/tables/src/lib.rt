@@ -2,7 +2,7 @@
 #![tactic(auto)]
 
 // The refusals of the table, in its order; a place is a point's number or a pair's.
-#[derive(Clone, Copy)]
+#[derive(Clone, Copy, Debug, PartialEq, Eq)]
 pub enum Refusal {
     // 1
     OddLength,
@@ -28,24 +28,22 @@ pub enum Refusal {
     StuckPair(usize),
 }
 
-// What the checks answer.
-#[derive(Drop)]
-pub enum Checked {
-    Passed,
-    Refused(Refusal),
+// The eight sheet rules, by document 01's numbers.
+#[derive(Clone, Copy, Debug, PartialEq, Eq)]
+pub enum Rule {
+    TriplesProper = 1,
+    EdgesOnce = 2,
+    EdgesMet = 3,
+    PointsMet = 4,
+    AreasFill = 5,
+    PairsMet = 6,
+    EdgesStay = 7,
+    HouseOrder = 8,
 }
 
-// What the checker answers: yes, the lowest broken rule, or a refusal.
-#[derive(Drop)]
-pub enum Verdict {
-    Yes,
-    Breaks(u32),
+// Why the checker does not say yes to a list: the lowest rule that it breaks, or the refusal of the data.
+#[derive(Clone, Copy, Debug, PartialEq, Eq)]
+pub enum Objection {
+    Breaks(Rule),
     Refused(Refusal),
-}
-
-// The lowest index that offends, or that there is none.
-#[derive(Drop)]
-pub enum Lowest {
-    At(usize),
-    Nowhere,
 }

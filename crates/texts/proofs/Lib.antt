@@ -1,4 +1,5 @@
 pub mod Words
 pub mod Numbers
+pub mod Entries
 pub mod Figures
 mod Examples

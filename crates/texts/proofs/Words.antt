@@ -2,46 +2,18 @@
 use mathlib.Core.Path.{◌≡◌, refl, sym, ap, ◌∙◌}
 use mathlib.Core.Bool.{Bool, true, false, not}
 use mathlib.Core.List.{List}
-use Prim.Native.Nat.{ℕ, suc, ◌+◌, ◌-◌, ◌*◌, ◌≤◌, ◌<◌}
+use Prim.Native.Nat.{ℕ, suc, ◌+◌, ◌-◌, ◌*◌, ◌≤◌, ◌<◌, min}
 use native.Mathlib.Numerals.{add-one}
 use native.Mathlib.Omega.{arith}
-use borrow.Author.Tests.{leb-true, leb-false, le-leb, lt-leb, eq-eqb, ne_eqb}
+use borrow.Author.Tests.{leb-true, leb-false, le-leb, lt-leb}
 use lib.Dec.{leb}
 use lib.ListN.{get_or}
+use Rattle.std.specs.Prelude.{Some, None}
 use Rattle.algebra.specs.Tests.{all_to}
 use Rattle.algebra.proofs.Tests.{by_test, and_fst, and_snd, all_more, all_fails}
 use Rattle.texts.specs.Words.{is_space, is_black, is_digit, first, all_digits, value_of, capped, digits_of}
-use Rattle.texts.specs.declared.Digits.TheVariants.{Value, NotDigits}
 
 -- ---- single bytes
-pub space_is : (b : ℕ) → b ≡ 32 → true ≡ is_space b
-unfolding is_space
-space_is b e = rw (eq-eqb b 32 e)
-
-pub space_low : (b : ℕ) → (b ≡ 32 → ⊥) → b < 9 → false ≡ is_space b
-unfolding is_space
-space_low b f l = simp (ne_eqb b 32 f, lt-leb 9 b l)
-
-pub space_mid : (b : ℕ) → (b ≡ 32 → ⊥) → 9 ≤ b → b ≤ 13 → true ≡ is_space b
-unfolding is_space
-space_mid b f l h = simp (ne_eqb b 32 f, le-leb 9 b l, le-leb b 13 h)
-
-pub space_high : (b : ℕ) → (b ≡ 32 → ⊥) → 9 ≤ b → 13 < b → false ≡ is_space b
-unfolding is_space
-space_high b f l h = simp (ne_eqb b 32 f, le-leb 9 b l, lt-leb b 13 h)
-
-pub digit_low : (b : ℕ) → b < 48 → false ≡ is_digit b
-unfolding is_digit
-digit_low b l = simp (lt-leb 48 b l)
-
-pub digit_is : (b : ℕ) → 48 ≤ b → b ≤ 57 → true ≡ is_digit b
-unfolding is_digit
-digit_is b l h = simp (le-leb 48 b l, le-leb b 57 h)
-
-pub digit_high : (b : ℕ) → 48 ≤ b → 57 < b → false ≡ is_digit b
-unfolding is_digit
-digit_high b l h = simp (le-leb 48 b l, lt-leb b 57 h)
-
 pub digit_from : (b : ℕ) → is_digit b ≡ true → 48 ≤ b
 unfolding is_digit
 digit_from b h = leb-true 48 b (and_fst (leb 48 b) (leb b 57) h)
@@ -91,6 +63,11 @@ capped_low n l = rw (le-leb n 4294967295 l)
 pub capped_high : (n : ℕ) → 4294967295 < n → capped n ≡ 4294967296
 unfolding capped
 capped_high n l = rw (lt-leb n 4294967295 l)
+
+pub capped_is : (n : ℕ) → min n 4294967296 ≡ capped n
+capped_is n =
+    by_test (leb n 4294967295) (λ h. let l = leb-true n 4294967295 h in let e = capped_low n l in omega arith)
+    (λ h. let l = leb-false n 4294967295 h in let e = capped_high n l in omega arith)
 
 pub capped_le : (n : ℕ) → capped n ≤ 4294967296
 capped_le n =
@@ -156,13 +133,13 @@ module _ (text : List ℕ) (i p v : ℕ) (r : Read text i p v) where
   read_fails : (n : ℕ) → p < n → is_digit (get_or text p 0) ≡ false → all_digits text i (n - i) ≡ false
   read_fails n l h = let a = r.low in all_fails here (n - i) (p - i) (omega arith) (ap (λ (x : ℕ). is_digit (get_or text x 0)) at ∙ h)
 
-  pub fails_is : (n : ℕ) → p < n → is_digit (get_or text p 0) ≡ false → NotDigits ≡ digits_of text i (n - i)
+  pub fails_is : (n : ℕ) → p < n → is_digit (get_or text p 0) ≡ false → None ≡ digits_of text i (n - i)
   unfolding digits_of
   fails_is n l h = rw (read_fails n l h)
 
-  pub value_is : (n : ℕ) → p ≡ n → Value v ≡ digits_of text i (n - i)
+  pub value_is : (n : ℕ) → p ≡ n → Some v ≡ digits_of text i (n - i)
   unfolding digits_of
-  value_is n e = ap Value r.value ∙ sym (digits_yes (p - i) r.digits) ∙ ap (λ (x : ℕ). digits_of text i (x - i)) e
+  value_is n e = ap Some r.value ∙ sym (digits_yes (p - i) r.digits) ∙ ap (λ (x : ℕ). digits_of text i (x - i)) e
     where
-      digits_yes : (k : ℕ) → all_digits text i k ≡ true → digits_of text i k ≡ Value (capped (value_of text i k))
+      digits_yes : (k : ℕ) → all_digits text i k ≡ true → digits_of text i k ≡ Some (capped (value_of text i k))
       digits_yes k h = rw h

@@ -1,36 +1,14 @@
 // The words of a text, which are the longest runs of bytes that are no white space, and the numbers that they are.
 #![tactic(auto)]
 
-ghost use Rattle.std.specs.Prelude.{◌≡◌, true, false, ℕ, ◌+◌, ◌*◌, ◌-◌, ◌≤◌, ◌<◌, length};
+ghost use Rattle.std.specs.Prelude.{◌≡◌, Bool, true, false, ℕ, ◌+◌, ◌*◌, ◌-◌, ◌≤◌, ◌<◌, length};
 ghost use Rattle.texts.specs.Words.{is_space, is_digit, word_start, word_end, capped, digits_of, number_at, word_at, next_word};
-ghost use Rattle.texts.specs.Figures.{signed, allowed, taken, read_all, put_points, put_pairs, outcome, ended, tail_of, rest_of, figure_of};
+ghost use Rattle.texts.specs.Figures.{signed, unsigned, allowed, entry_of, taken, entered, read_all, put_all, outcome, ended, figure_of};
 
-// What a run of bytes is: digits, with the number that they are, or no digits.
-#[derive(Drop)]
-pub enum Digits {
-    Value(u64),
-    NotDigits,
-}
-
-// What stands next in a text: a number with its sign, its size and the places where its word starts and ends, a word that is no number or one
-// beyond the limit, with the place where it starts, or only white space.
-#[derive(Drop)]
-pub enum Word {
-    Nothing,
-    Number {
-        minus: bool,
-        size: u32,
-        start: usize,
-        end: usize,
-    },
-    NotANumber(usize),
-    DoesNotFit(usize),
-}
-
-// What reading a figure comes to: the counts of its points and pairs, or what is wrong with the text and where.
-#[derive(Drop)]
-pub enum Answer {
-    Figure(usize, usize),
+// What is wrong with a text: the word at a place is no number, or one beyond the limit; words lack, or the one at a place is too much; or the
+// lists have no room for the numbers.
+#[derive(Clone, Copy, Debug, PartialEq, Eq)]
+pub enum Fault {
     NotANumber(usize),
     DoesNotFit(usize),
     TooFew,
@@ -38,61 +16,84 @@ pub enum Answer {
     NoRoom,
 }
 
-// One number, with the place after its word, or the fault.
-#[derive(Drop)]
-pub enum Step {
-    Taken { minus: bool, size: u32, next: usize },
-    Stop(Answer),
+// A word that is a number: its sign, its size and the places where the word starts and ends.
+#[derive(Clone, Copy, Debug, PartialEq, Eq)]
+pub struct Number {
+    pub minus: bool,
+    pub size: u32,
+    pub start: usize,
+    pub end: usize,
 }
 
-// Several numbers: the place after them, or the first fault.
-#[derive(Drop)]
-pub enum Progress {
-    Done(usize),
-    Fault(Answer),
+// How many points and pairs a figure has.
+#[derive(Clone, Copy, Debug, PartialEq, Eq)]
+pub struct Figure {
+    pub points: usize,
+    pub pairs: usize,
+}
+
+// What a list of a figure holds: coordinates, or counts and point numbers.
+pub trait Entry: Copy {
+    ghost coordinate: { Bool };
+
+    ghost value: { Bool → ℕ → Self };
+
+    // The number of a size and a sign, where it may stand.
+    fn entry(minus: bool, size: u32) -> Option<Self>
+        ensures { result ≡ entry_of coordinate value minus size };
+}
+
+impl Entry for i32 {
+    ghost coordinate = { true };
+
+    ghost value = { signed };
+
+    fn entry(minus: bool, size: u32) -> Option<i32> {
+        match i32::try_from(size) {
+            Ok(n) => Some(if minus { -n } else { n }),
+            Err(_) => None,
+        }
+    }
+}
+
+impl Entry for u32 {
+    ghost coordinate = { false };
+
+    ghost value = { unsigned };
+
+    #[tactic(auto, unfolding(crate::specs::Figures::allowed))]
+    fn entry(minus: bool, size: u32) -> Option<u32> {
+        (!minus || size == 0).then_some(size)
+    }
 }
 
 // A byte is white space.
+#[tactic(auto, unfolding(crate::specs::Words::is_space))]
 pub fn is_space(b: u8) -> bool
     ensures { result ≡ is_space b }
 {
-    if b == b' ' {
-        true
-    } else if b < 9 {
-        false
-    } else if b <= 13 {
-        true
-    } else {
-        false
-    }
+    b == b' ' || (9..=13).contains(&b)
 }
 
 // A byte is a digit.
+#[tactic(auto, unfolding(crate::specs::Words::is_digit))]
 pub fn is_digit(b: u8) -> bool
     ensures { result ≡ is_digit b }
 {
-    if b < b'0' {
-        false
-    } else if b <= b'9' {
-        true
-    } else {
-        false
-    }
+    b.is_ascii_digit()
 }
 
 // Where the next word starts: the first place from there on whose byte is no white space, or the text's end.
+// This and `word_end` are `for` loops over the places, as the text's end is an answer too and the library has no law for `position` of a part.
 pub fn word_start(text: &[u8], from: usize) -> usize
     ensures { result ≡ word_start text.now from }
 {
-    let mut i = from;
-    while i < text.len() {
-        if is_space(text[i]) {
-            i += 1;
-        } else {
+    for i in from..text.len() {
+        if !is_space(text[i]) {
             return i;
         }
     }
-    i
+    from.max(text.len())
 }
 
 // Where a word ends: the first place from there on whose byte is white space, or the text's end.
@@ -100,72 +101,64 @@ pub fn word_end(text: &[u8], from: usize) -> usize
     requires { from ≤ length text.now }
     ensures { (result ≡ word_end text.now from) × (from ≤ result) × (result ≤ length text.now) }
 {
-    let mut i = from;
-    while i < text.len() {
+    for i in from..text.len() {
         if is_space(text[i]) {
             return i;
         }
-        i += 1;
     }
-    i
+    text.len()
 }
 
 // One digit more.
+#[tactic(auto, using(crate::proofs::Words::capped_is))]
 fn more(v: u64, b: u8) -> u64
     requires { (v ≤ 4294967296) × (48 ≤ b) × (b ≤ 57) }
     ensures { result ≡ capped (10 * v + (b - 48)) }
 {
-    let n = 10 * v + (b - b'0') as u64;
-    if n <= 4294967295 { n } else { 4294967296 }
+    (10 * v + (b - b'0') as u64).min(4294967296)
 }
 
-// The number that the bytes of a part of the text are. A number beyond the limit is answered as the limit and one.
-pub fn read_digits(text: &[u8], from: usize, end: usize) -> Digits
+// The number that the bytes of a part of the text are, where they are digits. A number beyond the limit is answered as the limit and one.
+// The limit and one for too large is what `capped` and `digits_of` of specs/ say.
+pub fn read_digits(text: &[u8], from: usize, end: usize) -> Option<u64>
     requires { (from ≤ end) × (end ≤ length text.now) }
     ensures { result ≡ digits_of text.now from (end - from) }
 {
     let mut v: u64 = 0;
-    let mut i = from;
-    while i < end {
-        if is_digit(text[i]) {
-            v = more(v, text[i]);
-            i += 1;
-        } else {
-            return Digits::NotDigits;
+    for i in from..end {
+        if !is_digit(text[i]) {
+            return None;
         }
+        v = more(v, text[i]);
     }
-    Digits::Value(v)
+    Some(v)
 }
 
 // The word at start, whose digits are from place i to its end.
-fn number_at(text: &[u8], start: usize, minus: bool, i: usize, end: usize) -> Word
+// The sign stays a flag beside the size: a count may be -0, and specs/ tells the two apart.
+fn number_at(text: &[u8], start: usize, minus: bool, i: usize, end: usize) -> Result<Number, Fault>
     requires { end ≤ length text.now }
     ensures { result ≡ number_at text.now start minus i end }
 {
     if end <= i {
-        return Word::NotANumber(start);
+        return Err(Fault::NotANumber(start));
     }
-    let d = read_digits(text, i, end);
-    match d {
-        Digits::Value(v) => {
-            if v <= 4294967295 {
-                return Word::Number {
-                    minus,
-                    size: v as u32,
-                    start,
-                    end,
-                };
-            }
-            return Word::DoesNotFit(start);
-        }
-        Digits::NotDigits => {
-            return Word::NotANumber(start);
-        }
+    let Some(v) = read_digits(text, i, end) else {
+        return Err(Fault::NotANumber(start));
+    };
+    if v > 4294967295 {
+        return Err(Fault::DoesNotFit(start));
     }
+    Ok(Number {
+        minus,
+        size: v as u32,
+        start,
+        end,
+    })
 }
 
 // The word from start to end.
-fn word_at(text: &[u8], start: usize, end: usize) -> Word
+fn word_at(text: &[u8], start: usize, end: usize) -> Result<Number, Fault>
     requires { (start < length text.now) × (end ≤ length text.now) }
     ensures { result ≡ word_at text.now start end }
 {
@@ -175,223 +168,81 @@ fn word_at(text: &[u8], start: usize, end: usize) -> Word
     number_at(text, start, false, start, end)
 }
 
-// The first word from a place on.
-pub fn next_word(text: &[u8], from: usize) -> Word
+// The first word from a place on, where there is one.
+pub fn next_word(text: &[u8], from: usize) -> Result<Option<Number>, Fault>
     ensures { result ≡ next_word text.now from }
 {
     let start = word_start(text, from);
-    if text.len() <= start {
-        return Word::Nothing;
+    if start >= text.len() {
+        return Ok(None);
     }
     let end = word_end(text, start);
-    word_at(text, start, end)
+    word_at(text, start, end).map(Some)
 }
 
-// The number of a size, below zero where it has a minus sign.
-fn with_sign(minus: bool, size: u32) -> i32
-    requires { size ≤ 2147483647 }
-    ensures { result ≡ signed minus size }
+// The next number, and the place after its word.
+pub fn take_number<T: Entry>(text: &[u8], from: usize) -> Result<(T, usize), Fault>
+    ensures { result ≡ entered T.value (taken T.coordinate (next_word text.now from)) }
 {
-    let n = size as i32;
-    if minus { 0 - n } else { n }
-}
-
-// The number fits where it is to go: a coordinate, or a count or a point number.
-fn is_allowed(coordinate: bool, minus: bool, size: u32) -> bool
-    ensures { result ≡ allowed coordinate minus size }
-{
-    if coordinate {
-        return size <= 2147483647;
-    }
-    if minus {
-        return size == 0;
-    }
-    true
-}
-
-// The next number.
-pub fn take_number(text: &[u8], from: usize, coordinate: bool) -> Step
-    ensures { result ≡ taken coordinate (next_word text.now from) }
-{
-    let w = next_word(text, from);
-    match w {
-        Word::Nothing => {
-            return Step::Stop(Answer::TooFew);
-        }
-        Word::Number {
-            minus,
-            size,
-            start,
-            end,
-        } => {
-            if is_allowed(coordinate, minus, size) {
-                return Step::Taken {
-                    minus,
-                    size,
-                    next: end,
-                };
-            }
-            return Step::Stop(Answer::DoesNotFit(start));
-        }
-        Word::NotANumber(place) => {
-            return Step::Stop(Answer::NotANumber(place));
-        }
-        Word::DoesNotFit(place) => {
-            return Step::Stop(Answer::DoesNotFit(place));
-        }
+    let Some(word) = next_word(text, from)? else {
+        return Err(Fault::TooFew);
+    };
+    match T::entry(word.minus, word.size) {
+        Some(value) => Ok((value, word.end)),
+        None => Err(Fault::DoesNotFit(word.start)),
     }
 }
 
-// The next numbers are coordinates, and become the first of the list.
-pub fn read_points(text: &[u8], from: usize, points: &mut [i32], count: usize) -> Progress
-    requires { count ≤ length points.old }
-    ensures { (result ≡ read_all true text.now from count) × (points.new ≡ put_points text.now from 0 count points.old) }
+// The next numbers become the first of the list. The answer is the place after them.
+// The list and the count are two arguments, since the clause says what the whole list holds afterwards.
+pub fn read_numbers<T: Entry>(
+    text: &[u8],
+    from: usize,
+    list: &mut [T],
+    count: usize,
+) -> Result<usize, Fault>
+    requires { count ≤ length list.old }
+    ensures { (result ≡ read_all T.coordinate text.now from count) × (list.new ≡ put_all T.coordinate T.value text.now from 0 count list.old) }
 {
-    let mut i = from;
-    let mut p = 0;
-    while p < count {
-        let s = take_number(text, i, true);
-        match s {
-            Step::Taken { minus, size, next } => {
-                points[p] = with_sign(minus, size);
-                i = next;
-                p += 1;
-            }
-            Step::Stop(a) => {
-                return Progress::Fault(a);
-            }
-        }
+    let mut at = from;
+    for p in 0..count {
+        let (value, next) = take_number(text, at)?;
+        list[p] = value;
+        at = next;
     }
-    Progress::Done(i)
-}
-
-// The next numbers are point numbers, and become the first of the list.
-pub fn read_pairs(text: &[u8], from: usize, pairs: &mut [u32], count: usize) -> Progress
-    requires { count ≤ length pairs.old }
-    ensures { (result ≡ read_all false text.now from count) × (pairs.new ≡ put_pairs text.now from 0 count pairs.old) }
-{
-    let mut i = from;
-    let mut p = 0;
-    while p < count {
-        let s = take_number(text, i, false);
-        match s {
-            Step::Taken {
-                minus: _,
-                size,
-                next,
-            } => {
-                pairs[p] = size;
-                i = next;
-                p += 1;
-            }
-            Step::Stop(a) => {
-                return Progress::Fault(a);
-            }
-        }
-    }
-    Progress::Done(i)
+    Ok(at)
 }
 
 // No word follows a figure.
-fn finish(text: &[u8], at: usize, n: usize, m: usize) -> Answer
-    ensures { result ≡ ended n m (next_word text.now at) }
+fn finish(text: &[u8], at: usize, figure: Figure) -> Result<Figure, Fault>
+    ensures { result ≡ ended figure.points figure.pairs (next_word text.now at) }
 {
-    let w = next_word(text, at);
-    match w {
-        Word::Nothing => {
-            return Answer::Figure(n, m);
-        }
-        Word::Number {
-            minus: _,
-            size: _,
-            start,
-            end: _,
-        } => {
-            return Answer::TooMany(start);
-        }
-        Word::NotANumber(start) => {
-            return Answer::TooMany(start);
-        }
-        Word::DoesNotFit(start) => {
-            return Answer::TooMany(start);
-        }
+    let start = word_start(text, at);
+    if start < text.len() {
+        return Err(Fault::TooMany(start));
     }
-}
-
-// The point numbers of the pairs, and the end.
-fn read_tail(text: &[u8], n: usize, m: usize, from: usize, pairs: &mut [u32]) -> Answer
-    requires { 2 * m ≤ length pairs.old }
-    ensures { (result ≡ tail_of text.now n m from) × (pairs.new ≡ put_pairs text.now from 0 (2 * m) pairs.old) }
-{
-    let p = read_pairs(text, from, pairs, 2 * m);
-    match p {
-        Progress::Done(at) => {
-            return finish(text, at, n, m);
-        }
-        Progress::Fault(a) => {
-            return a;
-        }
-    }
-}
-
-// The coordinates, the point numbers of the pairs, and the end.
-fn read_rest(
-    text: &[u8],
-    n: usize,
-    m: usize,
-    from: usize,
-    points: &mut [i32],
-    pairs: &mut [u32],
-) -> Answer
-    requires { (n ≤ 4294967295) × (m ≤ 4294967295) }
-    ensures { outcome result points.new pairs.new ≡ rest_of text.now n m from points.old pairs.old }
-{
-    if points.len() < 2 * n {
-        return Answer::NoRoom;
-    }
-    if pairs.len() < 2 * m {
-        return Answer::NoRoom;
-    }
-    let p = read_points(text, from, points, 2 * n);
-    match p {
-        Progress::Done(at) => {
-            return read_tail(text, n, m, at, pairs);
-        }
-        Progress::Fault(a) => {
-            return a;
-        }
-    }
+    Ok(figure)
 }
 
 // A figure from its text: n, m, then 2n coordinates into the points, then 2m point numbers into the pairs.
-pub fn read_figure(text: &[u8], points: &mut [i32], pairs: &mut [u32]) -> Answer
+pub fn read_figure(text: &[u8], points: &mut [i32], pairs: &mut [u32]) -> Result<Figure, Fault>
     ensures { outcome result points.new pairs.new ≡ figure_of text.now points.old pairs.old }
 {
-    let first = take_number(text, 0, false);
-    match first {
-        Step::Taken {
-            minus: _,
-            size,
-            next,
-        } => {
-            let n = size as usize;
-            let second = take_number(text, next, false);
-            match second {
-                Step::Taken {
-                    minus: _,
-                    size,
-                    next,
-                } => {
-                    let m = size as usize;
-                    return read_rest(text, n, m, next, points, pairs);
-                }
-                Step::Stop(a) => {
-                    return a;
-                }
-            }
-        }
-        Step::Stop(a) => {
-            return a;
-        }
+    let (n, at) = take_number::<u32>(text, 0)?;
+    let (m, at) = take_number::<u32>(text, at)?;
+    let n = n as usize;
+    let m = m as usize;
+    if points.len() < 2 * n || pairs.len() < 2 * m {
+        return Err(Fault::NoRoom);
     }
+    let at = read_numbers(text, at, points, 2 * n)?;
+    let at = read_numbers(text, at, pairs, 2 * m)?;
+    finish(
+        text,
+        at,
+        Figure {
+            points: n,
+            pairs: m,
+        },
+    )
 }

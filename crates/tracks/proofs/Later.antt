@@ -16,13 +16,14 @@ use Rattle.chains.proofs.Rooms.{chain_put, slot_beside}
 use Rattle.chains.specs.Areas.{org, chain_cell, chain_of, slot_of}
 use Rattle.chains.specs.Recoveries.{begin_w}
 use Rattle.chains.specs.Walks.{enter_w, left_w, right_w, arrive_w, Walks, far, stop, last, left, right}
-use Rattle.chains.specs.declared.Walking.{Walking}
+use Rattle.chains.specs.declared.Reason.{Reason}
+use Rattle.std.specs.Prelude.{Result}
 use Rattle.tracks.proofs.Leaf.{enter_slot, enter_slot_is, enter_chain, enter_chain_is}
 
 -- ---- the sides
 
 -- the k-th gap is parked on the left, for the gaps that are parked from here on
-unfoldable pub sides : {P : ℕ → Pt ℤ} {n t a b l r x : ℕ} {w w' : List ℕ} {out : Walking} → Walks P n t a b w l r x out w' → ℕ → Bool
+unfoldable pub sides : {P : ℕ → Pt ℤ} {n t a b l r x : ℕ} {w w' : List ℕ} {out : Result (ℕ × ℕ) Reason} → Walks P n t a b w l r x out w' → ℕ → Bool
 sides (far h) k = true
 sides (stop h e) k = true
 sides (last {l = l} {r = r} h e q) k = eqb k (l + r)
@@ -75,7 +76,7 @@ later_then n l r l' r' w w1 w2 p q u v = record {
 }
 
 -- WHAT IS WRITTEN STAYS
-pub later : {P : ℕ → Pt ℤ} {n t a b l r x : ℕ} {w w' : List ℕ} {out : Walking} → Walks P n t a b w l r x out w' → 1 ≤ l → 1 ≤ r → t + 5 ≤ 2 * n → Later n l r w w'
+pub later : {P : ℕ → Pt ℤ} {n t a b l r x : ℕ} {w w' : List ℕ} {out : Result (ℕ × ℕ) Reason} → Walks P n t a b w l r x out w' → 1 ≤ l → 1 ≤ r → t + 5 ≤ 2 * n → Later n l r w w'
 unfolding arrive_w
 later {n = n} (far {w = w} {l = l} {r = r} h) p q few = later_none n l r w
 later {n = n} (stop {w = w} {l = l} {r = r} h e) p q few = later_none n l r w

@@ -23,7 +23,8 @@ use Rattle.chains.specs.Walks.{met, look_at}
 use Rattle.chains.specs.declared.Reason.{Reason}
 use Rattle.chains.specs.declared.Reason.TheVariants.{NoNeighbour, Marked, Twice, OnLine, Apex}
 use Rattle.chains.specs.declared.Beyond.{Beyond}
-use Rattle.chains.specs.declared.Beyond.TheVariants.{Left, Right, Last, Stuck}
+use Rattle.chains.specs.declared.Beyond.TheVariants.{Left, Right, Last}
+use Rattle.std.specs.Prelude.{Result, Ok, Err}
 
 -- ---- half-edges of a triangle
 
@@ -68,11 +69,11 @@ module _ (P : ℕ → Pt ℤ) (t a b : ℕ) (w : List ℕ) (x : ℕ) where
   Why OnLine = (y : ℕ) × Seen t w x y × (¬ (org w (prv y) ≡ b)) × (orient (P a) (P b) (P (org w (prv y))) ≡ pos 0)
   Why Apex = ⊥
 
-  unfoldable pub Saw : Beyond → Type 0
-  Saw (Left y c) = Seen t w x y × (org w (prv y) ≡ c) × Pos (orient (P a) (P b) (P c))
-  Saw (Right y c) = Seen t w x y × (org w (prv y) ≡ c) × Pos (neg_ℤ (orient (P a) (P b) (P c)))
-  Saw (Last y) = Seen t w x y × (org w (prv y) ≡ b)
-  Saw (Stuck e) = Why e
+  unfoldable pub Saw : Result Beyond Reason → Type 0
+  Saw (Ok (Left y c)) = Seen t w x y × (org w (prv y) ≡ c) × Pos (orient (P a) (P b) (P c))
+  Saw (Ok (Right y c)) = Seen t w x y × (org w (prv y) ≡ c) × Pos (neg_ℤ (orient (P a) (P b) (P c)))
+  Saw (Ok (Last y)) = Seen t w x y × (org w (prv y) ≡ b)
+  Saw (Err e) = Why e
 
   saw_met : (y c : ℕ) → org w (prv y) ≡ c → Seen t w x y → Saw (met P a b y c)
   unfolding Saw Why met left_of right_of
@@ -82,13 +83,13 @@ module _ (P : ℕ → Pt ℤ) (t a b : ℕ) (w : List ℕ) (x : ℕ) where
       not_pos z n = by_bool (posb z) (λ e. absurd (n (posb_pos z e))) (λ e. e)
 
       go : Dec (c ≡ b) → Sign (orient (P a) (P b) (P c)) → Saw (met P a b y c)
-      go (yes e) s = let q : met P a b y c ≡ Last y = simp (eq-eqb c b e) in subst Saw (sym q) (k, o ∙ e)
-      go (no e) (is_pos p) = let q : met P a b y c ≡ Left y c = simp (ne_eqb c b e, posb_yes (orient (P a) (P b) (P c)) p) in subst Saw (sym q) (k, o, p)
+      go (yes e) s = let q : met P a b y c ≡ Ok (Last y) = simp (eq-eqb c b e) in subst Saw (sym q) (k, o ∙ e)
+      go (no e) (is_pos p) = let q : met P a b y c ≡ Ok (Left y c) = simp (ne_eqb c b e, posb_yes (orient (P a) (P b) (P c)) p) in subst Saw (sym q) (k, o, p)
       go (no e) (is_below_zero p) =
-          let q : met P a b y c ≡ Right y c = simp (ne_eqb c b e, not_pos (orient (P a) (P b) (P c)) (λ u. not_both u p), posb_yes (neg_ℤ (orient (P a) (P b) (P c))) p) in
+          let q : met P a b y c ≡ Ok (Right y c) = simp (ne_eqb c b e, not_pos (orient (P a) (P b) (P c)) (λ u. not_both u p), posb_yes (neg_ℤ (orient (P a) (P b) (P c))) p) in
           subst Saw (sym q) (k, o, p)
       go (no e) (is_zero p) =
-          let q : met P a b y c ≡ Stuck OnLine =
+          let q : met P a b y c ≡ Err OnLine =
           simp (ne_eqb c b e, not_pos (orient (P a) (P b) (P c)) (λ u. not_zero u p), not_pos (neg_ℤ (orient (P a) (P b) (P c))) (λ u. not_zero u (ap neg_ℤ p))) in
           subst Saw (sym q) (y, k, (λ u. e (sym o ∙ u)), ap (λ (v : ℕ). orient (P a) (P b) (P v)) o ∙ p)
 
@@ -98,26 +99,26 @@ module _ (P : ℕ → Pt ℤ) (t a b : ℕ) (w : List ℕ) (x : ℕ) where
   saw = go (ℕ_discrete (adj w x) 0) (ℕ_discrete (con w x) 0) (dec_lt (3 * t) (adj w x))
     where
       go : Dec (adj w x ≡ 0) → Dec (con w x ≡ 0) → Dec (3 * t < adj w x) → Saw (look_at P t a b w x)
-      go (yes e) f g = let q : look_at P t a b w x ≡ Stuck NoNeighbour = simp (eq-eqb (adj w x) 0 e) in subst Saw (sym q) e
-      go (no e) (no f) g = let q : look_at P t a b w x ≡ Stuck Marked = simp (ne_eqb (adj w x) 0 e, ne_eqb (con w x) 0 f) in subst Saw (sym q) f
-      go (no e) (yes f) (yes g) = let q : look_at P t a b w x ≡ Stuck Twice = simp (ne_eqb (adj w x) 0 e, eq-eqb (con w x) 0 f, lt-ltb (3 * t) (adj w x) g) in subst Saw (sym q) g
+      go (yes e) f g = let q : look_at P t a b w x ≡ Err NoNeighbour = simp (eq-eqb (adj w x) 0 e) in subst Saw (sym q) e
+      go (no e) (no f) g = let q : look_at P t a b w x ≡ Err Marked = simp (ne_eqb (adj w x) 0 e, ne_eqb (con w x) 0 f) in subst Saw (sym q) f
+      go (no e) (yes f) (yes g) = let q : look_at P t a b w x ≡ Err Twice = simp (ne_eqb (adj w x) 0 e, eq-eqb (con w x) 0 f, lt-ltb (3 * t) (adj w x) g) in subst Saw (sym q) g
       go (no e) (yes f) (no g) =
           let l : adj w x ≤ 3 * t = omega arith in
           let q : look_at P t a b w x ≡ met P a b (adj w x - 1) (org w (prv (adj w x - 1))) = simp (ne_eqb (adj w x) 0 e, eq-eqb (con w x) 0 f, le-ltb (3 * t) (adj w x) l) in
           subst Saw (sym q) (saw_met (adj w x - 1) (org w (prv (adj w x - 1))) refl (record { mate = omega arith; plain = f; low = omega arith }))
 
-  pub saw_left : (y c : ℕ) → look_at P t a b w x ≡ Left y c → Seen t w x y × (org w (prv y) ≡ c) × Pos (orient (P a) (P b) (P c))
+  pub saw_left : (y c : ℕ) → look_at P t a b w x ≡ Ok (Left y c) → Seen t w x y × (org w (prv y) ≡ c) × Pos (orient (P a) (P b) (P c))
   unfolding Saw
   saw_left y c e = subst Saw e saw
 
-  pub saw_right : (y c : ℕ) → look_at P t a b w x ≡ Right y c → Seen t w x y × (org w (prv y) ≡ c) × Pos (neg_ℤ (orient (P a) (P b) (P c)))
+  pub saw_right : (y c : ℕ) → look_at P t a b w x ≡ Ok (Right y c) → Seen t w x y × (org w (prv y) ≡ c) × Pos (neg_ℤ (orient (P a) (P b) (P c)))
   unfolding Saw
   saw_right y c e = subst Saw e saw
 
-  pub saw_last : (y : ℕ) → look_at P t a b w x ≡ Last y → Seen t w x y × (org w (prv y) ≡ b)
+  pub saw_last : (y : ℕ) → look_at P t a b w x ≡ Ok (Last y) → Seen t w x y × (org w (prv y) ≡ b)
   unfolding Saw
   saw_last y e = subst Saw e saw
 
-  pub saw_stuck : (e : Reason) → look_at P t a b w x ≡ Stuck e → Why e
+  pub saw_stuck : (e : Reason) → look_at P t a b w x ≡ Err e → Why e
   unfolding Saw
   saw_stuck e q = subst Saw q saw

@@ -26,6 +26,7 @@ use Rattle.chains.specs.Areas.{org, adj, con, chain_of, slot_of, Room}
 use Rattle.chains.specs.Sticking.{Way, left as way-left, right as way-right}
 use Rattle.chains.specs.Walks.{look_at, enter_w, left_w, right_w}
 use Rattle.chains.specs.declared.Beyond.TheVariants.{Left, Right}
+use Rattle.std.specs.Prelude.{Ok}
 use Rattle.mirrors.specs.Models.{Ghost, model_of}
 use Rattle.tracks.specs.Tracks.{count, other, place, figure}
 use Rattle.tracks.proofs.Count.{count_yes, count_no, count_both, place_left, place_right, place_low, place_apart}
@@ -131,7 +132,7 @@ module _ (P : ℕ → Pt ℤ) (B : Side → Pt ℤ) (kk n t a b : ℕ) (w0 : Lis
 
     -- ---- a step to the left
 
-    module _ (y c : ℕ) (look : look_at P t a b w x ≡ Left y c) (slot : slot_of n w1 (l + r - 1) ≡ y / 3) (corner : chain_of n w1 (l + 1) ≡ c) (turn : s (l + r) ≡ true) where
+    module _ (y c : ℕ) (look : look_at P t a b w x ≡ Ok (Left y c)) (slot : slot_of n w1 (l + r - 1) ≡ y / 3) (corner : chain_of n w1 (l + 1) ≡ c) (turn : s (l + r) ≡ true) where
       pub state_left : (H : Ghost) × State (l + 1) r (nxt y) (left_w n w l r y c) H
       state_left =
           let sn = saw_left P t a b w x y c look in
@@ -161,7 +162,7 @@ module _ (P : ℕ → Pt ℤ) (B : Side → Pt ℤ) (kk n t a b : ℕ) (w0 : Lis
 
     -- ---- a step to the right
 
-    module _ (y c : ℕ) (look : look_at P t a b w x ≡ Right y c) (slot : slot_of n w1 (l + r - 1) ≡ y / 3) (corner : chain_of n w1 (2 * n - 2 - r) ≡ c) (turn : s (l + r) ≡ false) where
+    module _ (y c : ℕ) (look : look_at P t a b w x ≡ Ok (Right y c)) (slot : slot_of n w1 (l + r - 1) ≡ y / 3) (corner : chain_of n w1 (2 * n - 2 - r) ≡ c) (turn : s (l + r) ≡ false) where
       pub state_right : (H : Ghost) × State l (r + 1) (prv y) (right_w n w l r y c) H
       state_right =
           let sn = saw_right P t a b w x y c look in

@@ -28,8 +28,8 @@ use Rattle.chains.specs.Recoveries.{begin_w, SidesW, on_left, on_right}
 use Rattle.chains.specs.Sticking.{Leaves, Sticks, on_the_way, apex}
 use Rattle.chains.specs.Walks.{look_at, left_w, right_w, arrive_w, Walks, far, stop, last, left, right}
 use Rattle.chains.specs.declared.Beyond.TheVariants.{Left, Right, Last}
-use Rattle.chains.specs.declared.Walking.{Walking}
-use Rattle.chains.specs.declared.Walking.TheVariants.{Arrived, Stuck as Stays}
+use Rattle.chains.specs.declared.Reason.{Reason}
+use Rattle.std.specs.Prelude.{Result, Ok, Err}
 use Rattle.mirrors.specs.Models.{Ghost, model_of}
 use Rattle.tracks.specs.Tracks.{count, other, place, Track, Tracks, SticksOnWay, SticksAtApex}
 use Rattle.tracks.proofs.Apexes.{no_apex_shift}
@@ -54,17 +54,17 @@ module _ (P : ℕ → Pt ℤ) (B : Side → Pt ℤ) (kk n t a b : ℕ) (w0 : Lis
     ghost : Ghost
     state : State P B kk n t a b w0 tile rm s w1 l r x w ghost
     few : l + r ≤ t
-    look : look_at P t a b w x ≡ Last y
+    look : look_at P t a b w x ≡ Ok (Last y)
     is : w1 ≡ arrive_w n w l r y b
     turn : s (l + r) ≡ true
     turn' : s (l + r + 1) ≡ false
 
-  unfoldable Got : Walking → Type 0
-  Got (Arrived l r) = Met l r
-  Got (Stays e) = Sticks P (net_of w0 t) a b
+  unfoldable Got : Result (ℕ × ℕ) Reason → Type 0
+  Got (Ok (l, r)) = Met l r
+  Got (Err e) = Sticks P (net_of w0 t) a b
 
-  go_left : (l r x : ℕ) (w w' : List ℕ) (y c : ℕ) (out : Walking) → Walks P n t a b (left_w n w l r y c) (l + 1) r (nxt y) out w' → w' ≡ w1 →
-      l + r ≤ t → look_at P t a b w x ≡ Left y c → s (l + r) ≡ true → (Stands (l + 1) r (nxt y) (left_w n w l r y c) → Got out) → Stands l r x w → Got out
+  go_left : (l r x : ℕ) (w w' : List ℕ) (y c : ℕ) (out : Result (ℕ × ℕ) Reason) → Walks P n t a b (left_w n w l r y c) (l + 1) r (nxt y) out w' → w' ≡ w1 →
+      l + r ≤ t → look_at P t a b w x ≡ Ok (Left y c) → s (l + r) ≡ true → (Stands (l + 1) r (nxt y) (left_w n w l r y c) → Got out) → Stands l r x w → Got out
   go_left l r x w w' y c out d e h look turn f st =
       let S = st.1 in
       let p = S.some_left in let q = S.some_right in
@@ -75,8 +75,8 @@ module _ (P : ℕ → Pt ℤ) (B : Side → Pt ℤ) (kk n t a b : ℕ) (w0 : Lis
       (ap (λ (v : List ℕ). slot_of n v (l + r - 1)) (sym e) ∙ lt.slot (l + r - 1) (omega arith) ∙ enter_slot_is n w (l + r - 1) y (prv y) l (l + 1) c (omega arith))
       (ap (λ (v : List ℕ). chain_of n v (l + 1)) (sym e) ∙ lt.on_left (l + 1) (omega arith) ∙ enter_chain_is n w (l + r - 1) y (prv y) l (l + 1) c (omega arith)) turn)
 
-  go_right : (l r x : ℕ) (w w' : List ℕ) (y c : ℕ) (out : Walking) → Walks P n t a b (right_w n w l r y c) l (r + 1) (prv y) out w' → w' ≡ w1 →
-      l + r ≤ t → look_at P t a b w x ≡ Right y c → s (l + r) ≡ false → (Stands l (r + 1) (prv y) (right_w n w l r y c) → Got out) → Stands l r x w → Got out
+  go_right : (l r x : ℕ) (w w' : List ℕ) (y c : ℕ) (out : Result (ℕ × ℕ) Reason) → Walks P n t a b (right_w n w l r y c) l (r + 1) (prv y) out w' → w' ≡ w1 →
+      l + r ≤ t → look_at P t a b w x ≡ Ok (Right y c) → s (l + r) ≡ false → (Stands l (r + 1) (prv y) (right_w n w l r y c) → Got out) → Stands l r x w → Got out
   go_right l r x w w' y c out d e h look turn f st =
       let S = st.1 in
       let p = S.some_left in let q = S.some_right in
@@ -97,7 +97,7 @@ module _ (P : ℕ → Pt ℤ) (B : Side → Pt ℤ) (kk n t a b : ℕ) (w0 : Lis
   later_on k j u v h = ap (λ (z : Bool). cond z u v) (eqb_no k j (omega arith))
 
   -- TO THE END
-  go : {l r x : ℕ} {w w' : List ℕ} {out : Walking} (d : Walks P n t a b w l r x out w') → w' ≡ w1 → ((k : ℕ) → l + r ≤ k → s k ≡ sides d k) → Stands l r x w → Got out
+  go : {l r x : ℕ} {w w' : List ℕ} {out : Result (ℕ × ℕ) Reason} (d : Walks P n t a b w l r x out w') → w' ≡ w1 → ((k : ℕ) → l + r ≤ k → s k ≡ sides d k) → Stands l r x w → Got out
   unfolding sides Got
   go (far {w = w} {l = l} {r = r} {x = x} h) e f st = goes_far P B kk n t a b w0 tile rm s w1 l r x w st.0 st.1 h
   go (stop {w = w} {l = l} {r = r} {x = x} {e = q} h k) e f st = stops P B kk n t a b w0 tile rm s w1 l r x w st.0 st.1 q (saw_stuck P t a b w x q k)
@@ -276,7 +276,7 @@ module _ (P : ℕ → Pt ℤ) (B : Side → Pt ℤ) (kk n t a b : ℕ) (w0 : Lis
 
 -- ---- from the first triangle on
 
-module _ (P : ℕ → Pt ℤ) (B : Side → Pt ℤ) (kk n t a b : ℕ) (w0 : List ℕ) (x : ℕ) (out : Walking) (w1 : List ℕ) (tile : Tiling P B kk (net_of w0 t))
+module _ (P : ℕ → Pt ℤ) (B : Side → Pt ℤ) (kk n t a b : ℕ) (w0 : List ℕ) (x : ℕ) (out : Result (ℕ × ℕ) Reason) (w1 : List ℕ) (tile : Tiling P B kk (net_of w0 t))
     (rm : Room n t w0) (lv : Leaves P (net_of w0 t) a b x) (d : Walks P n t a b (begin_w n w0 a x) 1 1 x out w1) where
   abbrev s : ℕ → Bool
   s = turns (sides d)
@@ -305,14 +305,14 @@ module _ (P : ℕ → Pt ℤ) (B : Side → Pt ℤ) (kk n t a b : ℕ) (w0 : Lis
 pub tracks : Tracks
 unfolding Got
 tracks P B kk n t a b w x l r w1 tile rm lv d =
-    track P B kk n t a b w tile rm (turns (sides d)) w1 l r (walked P B kk n t a b w x (Arrived l r) w1 tile rm lv d) x (opens P B kk n t a b w x (Arrived l r) w1 tile rm lv d)
+    track P B kk n t a b w tile rm (turns (sides d)) w1 l r (walked P B kk n t a b w x (Ok (l, r)) w1 tile rm lv d) x (opens P B kk n t a b w x (Ok (l, r)) w1 tile rm lv d)
 
 -- WHERE IT STICKS, DOCUMENT 01'S STEP 4 STICKS: on the way
 pub sticks_on_way : SticksOnWay
 unfolding Got
-sticks_on_way P B kk n t a b w x e w1 tile rm lv d = walked P B kk n t a b w x (Stays e) w1 tile rm lv d
+sticks_on_way P B kk n t a b w x e w1 tile rm lv d = walked P B kk n t a b w x (Err e) w1 tile rm lv d
 
 -- and at an apex
 pub sticks_at_apex : SticksAtApex
 unfolding Got
-sticks_at_apex P B kk n t a b w x l r w1 tile rm lv d = sticks P B kk n t a b w tile rm (turns (sides d)) w1 l r (walked P B kk n t a b w x (Arrived l r) w1 tile rm lv d)
+sticks_at_apex P B kk n t a b w x l r w1 tile rm lv d = sticks P B kk n t a b w tile rm (turns (sides d)) w1 l r (walked P B kk n t a b w x (Ok (l, r)) w1 tile rm lv d)

@@ -1,6 +1,6 @@
 -- The walk of the working area as the walk of the model of recovery: the figure of the walk, read from the area after it, and the theorems
 -- of this crate, which are proved in proofs/. Definitions only.
-use Rattle.std.specs.Prelude.{Bool, cond, not, List, ◌≡◌, ℕ, zero, suc, ◌+◌, ◌-◌, ◌*◌, ◌≤◌, ◌<◌, ℤ, neg_ℤ, length}
+use Rattle.std.specs.Prelude.{Ok, Err, Bool, cond, not, List, ◌≡◌, ℕ, zero, suc, ◌+◌, ◌-◌, ◌*◌, ◌≤◌, ◌<◌, ℤ, neg_ℤ, length}
 use Rattle.algebra.specs.Order.{Pos}
 use Rattle.plane.specs.Base.{Side}
 use Rattle.plane.specs.Determinants.{orient}
@@ -16,7 +16,6 @@ use Rattle.chains.specs.Recoveries.{begin_w, SidesW}
 use Rattle.chains.specs.Sticking.{Leaves, Sticks}
 use Rattle.chains.specs.Walks.{Walks}
 use Rattle.chains.specs.declared.Reason.{Reason}
-use Rattle.chains.specs.declared.Walking.TheVariants.{Arrived, Stuck}
 use Rattle.mirrors.specs.Models.{Ghost, model_of}
 
 -- The gaps are parked one after another, some on the left and some on the right. Here s k says whether the k-th one is parked on the left,
@@ -80,18 +79,18 @@ abbrev pub Tracks : Type 0
 Tracks =
     (P : ℕ → Pt ℤ) (B : Side → Pt ℤ) (k n t a b : ℕ) (w : List ℕ) (x l r : ℕ) (w1 : List ℕ) →
     Tiling P B k (net_of w t) → Room n t w → Leaves P (net_of w t) a b x →
-    Walks P n t a b (begin_w n w a x) 1 1 x (Arrived l r) w1 → Track P B n t a b w l r w1
+    Walks P n t a b (begin_w n w a x) 1 1 x (Ok (l, r)) w1 → Track P B n t a b w l r w1
 
 -- WHERE THE WALK STICKS, DOCUMENT 01'S STEP 4 STICKS, told of the net before it,
 abbrev pub SticksOnWay : Type 0
 SticksOnWay =
     (P : ℕ → Pt ℤ) (B : Side → Pt ℤ) (k n t a b : ℕ) (w : List ℕ) (x : ℕ) (e : Reason) (w1 : List ℕ) →
     Tiling P B k (net_of w t) → Room n t w → Leaves P (net_of w t) a b x →
-    Walks P n t a b (begin_w n w a x) 1 1 x (Stuck e) w1 → Sticks P (net_of w t) a b
+    Walks P n t a b (begin_w n w a x) 1 1 x (Err e) w1 → Sticks P (net_of w t) a b
 
 -- and so it does where an apex over a side of the cavity is not strictly left of its base.
 abbrev pub SticksAtApex : Type 0
 SticksAtApex =
     (P : ℕ → Pt ℤ) (B : Side → Pt ℤ) (k n t a b : ℕ) (w : List ℕ) (x l r : ℕ) (w1 : List ℕ) →
     Tiling P B k (net_of w t) → Room n t w → Leaves P (net_of w t) a b x →
-    Walks P n t a b (begin_w n w a x) 1 1 x (Arrived l r) w1 → SidesW P n w1 l r → Sticks P (net_of w t) a b
+    Walks P n t a b (begin_w n w a x) 1 1 x (Ok (l, r)) w1 → SidesW P n w1 l r → Sticks P (net_of w t) a b

@@ -10,38 +10,30 @@ pub fn verdict(
     list: &[u32],
     work: &mut [u32],
 ) -> io::Result<()> {
-    let answer = checker::check(points, pairs, list, work);
-    reports::verdict(rt, answer)
+    reports::verdict(rt, checker::check(points, pairs, list, work))
 }
 
-pub fn judged(
-    rt: &impl Print,
-    name: &[u8],
-    points: &[i32],
-    pairs: &[u32],
-    list: &[u32],
-    work: &mut [u32],
-) -> io::Result<()> {
-    reports::text(rt, name)?;
-    reports::text(rt, b": ")?;
-    verdict(rt, points, pairs, list, work)?;
-    reports::text(rt, b"\n")
+// A list that is judged as the sheet of a figure.
+#[derive(Clone, Copy)]
+pub struct Trial<'a> {
+    pub name: &'a str,
+    pub points: &'a [i32],
+    pub pairs: &'a [u32],
+    pub list: &'a [u32],
 }
 
-// A case of at most ten points, with room for them.
-pub fn small(
-    rt: &impl Print,
-    name: &[u8],
-    points: &[i32],
-    pairs: &[u32],
-    list: &[u32],
-) -> io::Result<()> {
-    let mut work = [7u32; 640];
-    judged(rt, name, points, pairs, list, &mut work)
+impl Trial<'_> {
+    pub fn judge(self, rt: &impl Print, work: &mut [u32]) -> io::Result<()> {
+        print!(rt; "{}: ", self.name)?;
+        verdict(rt, self.points, self.pairs, self.list, work)?;
+        rt.print("\n")
+    }
 }
 
-// The same without pairs.
-pub fn bare(rt: &impl Print, name: &[u8], points: &[i32], list: &[u32]) -> io::Result<()> {
-    let none = [0u32; 0];
-    small(rt, name, points, &none, list)
+// Cases of at most ten points, with room for them.
+pub fn small(rt: &impl Print, trials: &[Trial<'_>]) -> io::Result<()> {
+    for trial in trials {
+        trial.judge(rt, &mut [7; 640])?;
+    }
+    Ok(())
 }

@@ -16,47 +16,19 @@ fn proper(points: &[i32], a: u32, b: u32, c: u32) -> bool
     let i = a as usize;
     let j = b as usize;
     let k = c as usize;
-    if n <= i {
-        return false;
-    }
-    if n <= j {
-        return false;
-    }
-    if n <= k {
-        return false;
-    }
-    if i == j {
-        return false;
-    }
-    if j == k {
-        return false;
-    }
-    if k == i {
-        return false;
-    }
-    segments::is_left(points, i, j, k)
+    i < n && j < n && k < n && i != j && j != k && k != i && segments::is_left(points, i, j, k)
 }
 
 // Rule 1: 1 to 2n - 5 triples of distinct point numbers, each strictly counterclockwise. The 5 is added on the other side, since 2n - 5
 // would wrap below three points.
+#[tactic(auto, unfolding(tables::specs::Rules::rule1))]
 pub fn triples_proper(points: &[i32], list: &[u32]) -> bool
     requires { Near points.now }
     ensures { result ≡ rule1 points.now list.now }
 {
     let n = points.len() / 2;
     let count = list.len() / 3;
-    if count < 1 {
-        return false;
-    }
-    if 2 * n < count + 5 {
-        return false;
-    }
-    let mut t = 0;
-    while t < count {
-        if !proper(points, list[3 * t], list[3 * t + 1], list[3 * t + 2]) {
-            return false;
-        }
-        t += 1;
-    }
-    true
+    1 <= count
+        && count + 5 <= 2 * n
+        && (0..count).all(|t| proper(points, list[3 * t], list[3 * t + 1], list[3 * t + 2]))
 }

@@ -5,10 +5,18 @@ use Rattle.tables.specs.Data.{point_count}
 use Rattle.nets.specs.Layout.{net_of}
 use Rattle.nets.specs.Location.{holds, step, or_else, slot_of}
 use Rattle.nets.specs.Nets.{Net}
+use Rattle.turns.specs.declared.Turn.{Turn}
+use Rattle.turns.specs.declared.Turn.TheVariants.{Here, NoWay, To}
 
 -- every corner of the T triangles is a point number
 abbrev pub Numbered : List ℤ → List ℕ → ℕ → Type 0
 Numbered ps w T = (h : ℕ) → h < 3 * T → (net_of w T).org h < point_count ps
+
+-- a turn as a number
+abbrev pub turn_number : Turn → ℕ
+turn_number Here = 0
+turn_number NoWay = 1
+turn_number (To t) = suc (suc t)
 
 unfoldable pub move : (ℕ → Pt ℤ) → Net → Pt ℤ → ℕ → ℕ
 move P m p t = cond (holds P m p t) 0 (suc (step P m p t))

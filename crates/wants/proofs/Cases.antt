@@ -1,12 +1,12 @@
 -- Step 3 by the cases of the code: a mark, no partner, the circle sign, and the ranks. Assumes nothing.
-use mathlib.Core.Bool.{Bool, true, false, ◌&&◌, ◌||◌}
+use mathlib.Core.Bool.{Bool, true, false, ◌&&◌}
 use mathlib.Core.List.{List}
 use mathlib.Core.Logic.{◌⊎◌, inl, inr}
 use mathlib.Core.Path.{◌≡◌, refl, sym, ap, ◌∙◌, subst}
 use Prim.Native.Nat.{ℕ, suc, ◌+◌, ◌-◌, ◌*◌, ◌/◌, ◌%◌, ◌<◌, ◌≤◌, min, max}
 use native.Mathlib.Decide.{ℕ_discrete}
 use native.Mathlib.Omega.{arith}
-use borrow.Author.Tests.{lt-ltb, le-ltb, eq-eqb, ne_eqb, ltb-true, eqb-true}
+use borrow.Author.Tests.{lt-ltb, le-ltb, eq-eqb, ltb-true, eqb-true}
 use lib.Dec.{ltb, eqb}
 use lib.IntN.{ℤ, pos}
 use lib.ListN.{length, get_or}
@@ -32,6 +32,7 @@ use Rattle.nets.specs.Layout.{cell, net_of, rank_cell}
 use Rattle.nets.specs.Nets.{Net, prv}
 use Rattle.nets.proofs.Plain.{wanted}
 use Rattle.nets.proofs.Slot.{nxt_in, nxt_slot}
+use Rattle.std.specs.Prelude.{Some, None}
 use Rattle.wants.specs.Tries.{Ready, Tried, flips, rests, First}
 
 -- ---- rank pairs
@@ -62,18 +63,6 @@ below_no rk u v p q f (by_second e l) =
       lt-ltb (max (rk u) (rk v)) (max (rk p) (rk q)) l,
     ) at f in
     let y : ◌≡◌ {A = ℕ} 0 1 = cc in omega arith
-
--- the code compares the smaller ones for equality first
-pub pair_tied : (c d a b p q x y : ℕ) → p ≡ min c d → q ≡ min a b → x ≡ max c d → y ≡ max a b → p ≡ q → ltb x y ≡ pair_below c d a b
-pair_tied c d a b p q x y e f g h t =
-    sym (rw (le-ltb (min c d) (min a b) (omega arith), eq-eqb (min c d) (min a b) (sym e ∙ t ∙ f), ← g, ← h))
-
-pub pair_apart : (c d a b p q : ℕ) → p ≡ min c d → q ≡ min a b → ¬ (p ≡ q) → ltb p q ≡ pair_below c d a b
-pair_apart c d a b p q e f n = rw (ne_eqb (min c d) (min a b) (λ i. n (e ∙ i ∙ sym f)), ← e, ← f) (or_false (ltb p q))
-  where
-    or_false : (t : Bool) → t ≡ (t || false)
-    or_false true = refl
-    or_false false = refl
 
 -- ---- the circle sign
 
@@ -289,42 +278,51 @@ module _ {ps : List ℤ} {count : ℕ} {w : List ℕ} {t e o p a b c d : ℕ} (v
 -- ---- the three edges of a slot
 
 module _ (P : ℕ → Pt ℤ) (rk : ℕ → ℕ) (m : Net) (t : ℕ) where
-  told_no : {h : ℕ} {b : Bool} → Tried P rk m h b → b ≡ false → (y : ℕ) → ¬ Wants P rk m h y
-  told_no (flips g u) e y = absurd (let z : ◌≡◌ {A = ℕ} 0 1 = cc in let f : ⊥ = omega arith in f)
-  told_no (rests f) e y = f y
+  abbrev Flips : ℕ → Type 0
+  Flips e = (g : ℕ) × Wants P rk m (3 * t + e) g
 
-  -- what is known of the edges below e
+  abbrev Rests : ℕ → Type 0
+  Rests e = (g : ℕ) → ¬ Wants P rk m (3 * t + e) g
+
+  told_yes : (e : ℕ) {b : Bool} → Tried P rk m (3 * t + e) b → b ≡ true → Flips e
+  told_yes e (flips x u) i = (x, u)
+  told_yes e (rests f) i = absurd (let z : ◌≡◌ {A = ℕ} 0 1 = cc in let f : ⊥ = omega arith in f)
+
+  told_no : (e : ℕ) {b : Bool} → Tried P rk m (3 * t + e) b → b ≡ false → Rests e
+  told_no e (flips x u) i = absurd (let z : ◌≡◌ {A = ℕ} 0 1 = cc in let f : ⊥ = omega arith in f)
+  told_no e (rests f) i = f
+
+  -- what is known of the half-edges before edge e of the slot
   abbrev Before : ℕ → Type 0
   Before e = (x y : ℕ) → x < 3 * t + e → x / 3 ≡ t → ¬ Wants P rk m x y
 
   before_0 : Before 0
   before_0 x y l i u = let z : ⊥ = omega arith in z
 
-  before_more : (e : ℕ) → Before e → ((y : ℕ) → ¬ Wants P rk m (3 * t + e) y) → Before (suc e)
+  before_more : (e : ℕ) → Before e → Rests e → Before (suc e)
   before_more e b n x y l i u =
       elim (ℕ_discrete x (3 * t + e)) [ yes q ↦ n y (subst (λ (z : ℕ). Wants P rk m z y) q u) | no q ↦ b x y (let z : x < 3 * t + e = omega arith in z) i u ]
 
-  told_yes : (e : ℕ) → e < 3 → Before e → {b : Bool} → Tried P rk m (3 * t + e) b → b ≡ true → First P rk m t e
-  told_yes e l f (flips g u) i = First.edge e g l u f
-  told_yes e l f (rests k) i = absurd (let z : ◌≡◌ {A = ℕ} 0 1 = cc in let f : ⊥ = omega arith in f)
+  first_yes : (e : ℕ) → e < 3 → Before e → Flips e → First P rk m t (Some e)
+  first_yes e l b f = First.edge e f.0 l f.1 b
 
   module _ {b0 : Bool} (r0 : Tried P rk m (3 * t + 0) b0) where
-    pub edge_0 : b0 ≡ true → First P rk m t 0
-    edge_0 i = told_yes 0 (omega arith) before_0 r0 i
+    pub edge_0 : b0 ≡ true → First P rk m t (Some 0)
+    edge_0 i = first_yes 0 (omega arith) before_0 (told_yes 0 r0 i)
 
     module _ (i0 : b0 ≡ false) {b1 : Bool} (r1 : Tried P rk m (3 * t + 1) b1) where
       before_1 : Before 1
-      before_1 = before_more 0 before_0 (told_no r0 i0)
+      before_1 = before_more 0 before_0 (told_no 0 r0 i0)
 
-      pub edge_1 : b1 ≡ true → First P rk m t 1
-      edge_1 i = told_yes 1 (omega arith) before_1 r1 i
+      pub edge_1 : b1 ≡ true → First P rk m t (Some 1)
+      edge_1 i = first_yes 1 (omega arith) before_1 (told_yes 1 r1 i)
 
       module _ (i1 : b1 ≡ false) {b2 : Bool} (r2 : Tried P rk m (3 * t + 2) b2) where
         before_2 : Before 2
-        before_2 = before_more 1 before_1 (told_no r1 i1)
+        before_2 = before_more 1 before_1 (told_no 1 r1 i1)
 
-        pub edge_2 : b2 ≡ true → First P rk m t 2
-        edge_2 i = told_yes 2 (omega arith) before_2 r2 i
+        pub edge_2 : b2 ≡ true → First P rk m t (Some 2)
+        edge_2 i = first_yes 2 (omega arith) before_2 (told_yes 2 r2 i)
 
-        pub edge_none : b2 ≡ false → First P rk m t 3
-        edge_none i2 = First.none (λ x y j. before_more 2 before_2 (told_no r2 i2) x y (let z : x < 3 * t + 3 = omega arith in z) j)
+        pub edge_none : b2 ≡ false → First P rk m t None
+        edge_none i2 = First.none (λ x y j. before_more 2 before_2 (told_no 2 r2 i2) x y (let z : x < 3 * t + 3 = omega arith in z) j)

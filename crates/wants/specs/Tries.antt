@@ -1,5 +1,5 @@
 -- What step 3 is asked of the working area, and its answers. Definitions only.
-use Rattle.std.specs.Prelude.{Bool, true, false, List, ◌≡◌, ℕ, ◌+◌, ◌*◌, ◌/◌, ◌<◌, ◌≤◌, ℤ, length, get_or}
+use Rattle.std.specs.Prelude.{Bool, true, false, Option, Some, None, List, ◌≡◌, ℕ, ◌+◌, ◌*◌, ◌/◌, ◌<◌, ◌≤◌, ℤ, length, get_or}
 use Rattle.plane.specs.Points.{Pt}
 use Rattle.tables.specs.Data.{point_count, point, base}
 use Rattle.tables.specs.Rules.{rank}
@@ -20,7 +20,7 @@ pub data Tried (P : ℕ → Pt ℤ) (rk : ℕ → ℕ) (m : Net) (h : ℕ) : Boo
   flips : (g : ℕ) → Wants P rk m h g → Tried P rk m h true
   rests : ((g : ℕ) → ¬ Wants P rk m h g) → Tried P rk m h false
 
--- the first edge of slot t that step 3 flips, or 3
-pub data First (P : ℕ → Pt ℤ) (rk : ℕ → ℕ) (m : Net) (t : ℕ) : ℕ → Type 0 where
-  edge : (e g : ℕ) → e < 3 → Wants P rk m (3 * t + e) g → ((x y : ℕ) → x < 3 * t + e → x / 3 ≡ t → ¬ Wants P rk m x y) → First P rk m t e
-  none : ((x y : ℕ) → x / 3 ≡ t → ¬ Wants P rk m x y) → First P rk m t 3
+-- the first edge of slot t that step 3 flips
+pub data First (P : ℕ → Pt ℤ) (rk : ℕ → ℕ) (m : Net) (t : ℕ) : Option ℕ → Type 0 where
+  edge : (e g : ℕ) → e < 3 → Wants P rk m (3 * t + e) g → ((x y : ℕ) → x < 3 * t + e → x / 3 ≡ t → ¬ Wants P rk m x y) → First P rk m t (Some e)
+  none : ((x y : ℕ) → x / 3 ≡ t → ¬ Wants P rk m x y) → First P rk m t None

@@ -4,7 +4,7 @@
 // circle sign, and the ranks only where that is zero. That the two new triangles are counterclockwise is not tried: in a tiling it follows.
 #![tactic(auto)]
 
-ghost use Rattle.std.specs.Prelude.{◌≡◌, ◌+◌, ◌*◌, ◌/◌, ◌≤◌, ◌<◌, min, max, length, get_or};
+ghost use Rattle.std.specs.Prelude.{◌≡◌, ◌+◌, ◌*◌, ◌/◌, ◌≤◌, ◌<◌, length, get_or};
 ghost use Rattle.tables.specs.Data.{point};
 ghost use Rattle.tables.specs.Figures.{Figure};
 ghost use Rattle.tables.specs.Rules.{rank, pair_below};
@@ -14,36 +14,11 @@ ghost use Rattle.wants.specs.Tries.{Ready, Tried, First};
 
 use signs::Sign;
 
-fn lesser(x: usize, y: usize) -> usize
-    ensures { result ≡ min x y }
-{
-    if x < y { x } else { y }
-}
-
-fn greater(x: usize, y: usize) -> usize
-    ensures { result ≡ max x y }
-{
-    if x < y { y } else { x }
-}
-
 // The pair of c and d, the smaller first, is below that of a and b.
-fn pair_below(c: usize, d: usize, a: usize, b: usize) -> bool
+fn pair_below(c: u32, d: u32, a: u32, b: u32) -> bool
     ensures { result ≡ pair_below c d a b }
 {
-    let p = lesser(c, d);
-    let q = lesser(a, b);
-    if p == q {
-        greater(c, d) < greater(a, b)
-    } else {
-        p < q
-    }
-}
-
-fn at(work: &[u32], i: usize) -> usize
-    requires { i < length work.now }
-    ensures { result ≡ get_or work.now i 0 }
-{
-    work[i] as usize
+    (c.min(d), c.max(d)) < (a.min(b), a.max(b))
 }
 
 // The rank pair of c and d is below that of a and b.
@@ -52,19 +27,20 @@ fn below(work: &[u32], c: usize, d: usize, a: usize, b: usize) -> bool
     ensures { result ≡ pair_below (get_or work.now (rank_cell c) 0) (get_or work.now (rank_cell d) 0) (get_or work.now (rank_cell a) 0) (get_or work.now (rank_cell b) 0) }
 {
     pair_below(
-        at(work, 16 * c + 11),
-        at(work, 16 * d + 11),
-        at(work, 16 * a + 11),
-        at(work, 16 * b + 11),
+        work[16 * c + 11],
+        work[16 * d + 11],
+        work[16 * a + 11],
+        work[16 * b + 11],
     )
 }
 
 // The corner that half-edge g's triangle has besides its two ends.
+#[tactic(auto, using(crate::proofs::Cases::place_prv))]
 fn far_corner(work: &[u32], g: usize) -> usize
     requires { (g < 24576) × (16 * (g / 3) + 16 ≤ length work.now) }
     ensures { result ≡ get_or work.now (cell 0 (prv g)) 0 }
 {
-    at(work, 16 * (g / 3) + (g + 2) % 3)
+    work[16 * (g / 3) + (g + 2) % 3] as usize
 }
 
 // Step 3 flips edge e of slot t.
@@ -73,39 +49,37 @@ fn tries(points: &[i32], work: &[u32], count: usize, t: usize, e: usize) -> bool
     ensures { Tried (point points.now) (rank points.now) (net_of work.now count) (3 * t + e) result }
 {
     let s = 16 * t;
-    if at(work, s + 6 + e) != 0 {
+    if work[s + 6 + e] != 0 {
         return false;
     }
-    let partner = at(work, s + 3 + e);
+    let partner = work[s + 3 + e] as usize;
     if partner == 0 {
         return false;
     }
-    let g = partner - 1;
-    let a = at(work, s + e);
-    let b = at(work, s + (e + 1) % 3);
-    let c = at(work, s + (e + 2) % 3);
-    let d = far_corner(work, g);
-    let sign = segments::circle_at(points, a, b, c, d);
-    match sign {
+    let a = work[s + e] as usize;
+    let b = work[s + (e + 1) % 3] as usize;
+    let c = work[s + (e + 2) % 3] as usize;
+    let d = far_corner(work, partner - 1);
+    match segments::circle_at(points, a, b, c, d) {
         Sign::Pos => true,
         Sign::Zero => below(work, c, d, a, b),
         Sign::Neg => false,
     }
 }
 
-// The first edge of slot t that step 3 flips, or 3 for none.
-pub fn first_edge(points: &[i32], work: &[u32], count: usize, t: usize) -> usize
+// The first edge of slot t that step 3 flips.
+pub fn first_edge(points: &[i32], work: &[u32], count: usize, t: usize) -> Option<usize>
     requires { Figure points.now × Ready points.now count work.now × (t < count) }
     ensures { First (point points.now) (rank points.now) (net_of work.now count) t result }
 {
+    // This is no `find` over the three edges: with e known at each call the tests take fewer instructions, as was measured.
     if tries(points, work, count, t, 0) {
-        return 0;
+        Some(0)
+    } else if tries(points, work, count, t, 1) {
+        Some(1)
+    } else if tries(points, work, count, t, 2) {
+        Some(2)
+    } else {
+        None
     }
-    if tries(points, work, count, t, 1) {
-        return 1;
-    }
-    if tries(points, work, count, t, 2) {
-        return 2;
-    }
-    3
 }

@@ -1,4 +1,3 @@
-use Prim.Native.Nat.{◌-◌}
 use Rattle.tables.specs.Data.{point}
 use Rattle.chains.specs.Areas.{chain_of}
 use Rattle.apexes.proofs.Scanning.{Scan}
@@ -6,6 +5,3 @@ use Rattle.apexes.proofs.choose.Given as goal
 
 abbrev pub invariant-loop-x : goal.invariant-loop-x
 invariant-loop-x l = Scan (point l.points) (chain_of l.n l.work) l.i l.j l.k l.x
-
-abbrev pub decreases-loop-x : goal.decreases-loop-x
-decreases-loop-x l = l.j - l.x

@@ -1,49 +1,35 @@
+use mathlib.Core.Path.{◌≡◌, sym, ap, ◌∙◌}
+use Prim.Native.Nat.{suc}
+use Rattle.tables.specs.Data.{point}
 use Rattle.tables.proofs.Table.{near_list}
-use Rattle.nets.proofs.Keeps.{kept_then}
+use Rattle.nets.specs.Layout.{net_of}
+use Rattle.nets.specs.Location.{locate}
+use Rattle.turns.specs.Numbers.{suc_or_0}
 use Rattle.splitting.proofs.Splits.{in_range, numbered}
-use Rattle.builder.proofs.Stages.{stage_tiled, stage_newest, stage_slot, split_grown, grown_ready, grown_newest, next_stage}
+use Rattle.builder.proofs.Stages.{stage_tiled, stage_newest, stage_some, stage_slot, split_grown, grown_ready, grown_newest, next_stage}
 use Rattle.builder.proofs.insert_point.Goals as goal
+use Rattle.builder.proofs.insert_point.Goals.{After-unwrap-t}
 
-pub locate-found-requires : goal.locate-found-requires
-locate-found-requires c = record { near = near_list _ c.requires.staged.1.figure.even c.requires.staged.1.figure.near; numbered = numbered (stage_tiled c.requires.staged.1); in_range = in_range (stage_tiled c.requires.staged.1); p_bound = (c.requires.p_bound, stage_newest c.requires.staged.1) }
+pub locate-requires : goal.locate-requires
+locate-requires c = let s = c.requires.staged.1 in
+    record { near = near_list _ s.figure.even s.figure.near; numbered = numbered (stage_tiled s); in_range = in_range (stage_tiled s); p_bound = (c.requires.p_bound, stage_newest s) }
 
-pub overflow_sub-found : goal.overflow_sub-found
-overflow_sub-found c = (stage_slot c.requires.staged.1 c.requires.p_bound c.locate-found.result c.locate-found.ensures).0
+pub unwrap-t-requires : goal.unwrap-t-requires
+unwrap-t-requires c = stage_some c.requires.staged.1 c.requires.p_bound c.locate.result c.locate.ensures
+
+-- the slot that holds the point
+found : (c : After-unwrap-t) → let P = point c.args.points.now in suc c.unwrap-t.result ≡ locate P (net_of c.args.work.now c.args.at.count) (P c.args.p) c.args.at.newest
+found c = ap suc_or_0 (sym c.unwrap-t.ensures) ∙ c.locate.ensures
 
 pub split_at-grown-requires : goal.split_at-grown-requires
-split_at-grown-requires c = record {
-  tiled = stage_tiled c.requires.staged.1;
-  t_lt_count = (
-    (stage_slot c.requires.staged.1 c.requires.p_bound c.locate-found.result
-        c.locate-found.ensures).1,
-    c.requires.p_bound,
-  );
-}
+split_at-grown-requires c = let s = c.requires.staged.1 in
+    record { tiled = stage_tiled s; t_lt_count = (stage_slot s c.requires.p_bound (found (goal.at.split_at-grown-requires c).After-unwrap-t), c.requires.p_bound) }
 
 pub legalize_suspects-last-requires : goal.legalize_suspects-last-requires
-legalize_suspects-last-requires c = let g = split_grown c.requires.staged.1
-    c.requires.p_bound c.locate-found.result
-    c.locate-found.ensures c.split_at-grown.ensures in record {
-      figure = (
-        c.requires.staged.1.figure,
-        grown_ready c.requires.staged.1
-            c.requires.p_bound g,
-      );
-      suspects = (
-        g.ready,
-        grown_newest c.requires.staged.1
-            c.requires.p_bound g,
-      );
-    }
+legalize_suspects-last-requires c = let s = c.requires.staged.1 in
+    let g = split_grown s c.requires.p_bound (found (goal.at.legalize_suspects-last-requires c).After-unwrap-t) c.split_at-grown.ensures in
+    record { figure = (s.figure, grown_ready s c.requires.p_bound g); suspects = (g.ready, grown_newest s c.requires.p_bound g) }
 
-pub returns : goal.returns
-returns c = record {
-  follows = λ o s. next_stage s c.requires.p_bound
-      (split_grown s c.requires.p_bound
-      c.locate-found.result
-      c.locate-found.ensures
-      c.split_at-grown.ensures) c.legalize_suspects-last.ensures.1
-      c.legalize_suspects-last.ensures.2;
-  kept = kept_then _ _ _ _ c.split_at-grown.ensures.kept
-      c.legalize_suspects-last.ensures.2;
-}
+pub returns-clause-follows : goal.returns-clause-follows
+returns-clause-follows c = λ o s. next_stage s c.requires.p_bound (split_grown s c.requires.p_bound (found (goal.at.returns-clause-follows c).After-unwrap-t) c.split_at-grown.ensures)
+    c.legalize_suspects-last.ensures.1 c.legalize_suspects-last.ensures.2

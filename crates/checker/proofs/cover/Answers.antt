@@ -1,5 +1,5 @@
 use mathlib.Core.Path.{◌≡◌, refl, sym, ◌∙◌}
-use mathlib.Core.Bool.{true, false}
+use mathlib.Core.Bool.{true}
 use Rattle.tables.specs.Rules.{rule3, rule4}
 use Rattle.checker.proofs.Parts.{rule_no, rule_so}
 use Rattle.checker.proofs.cover.Goals as goal

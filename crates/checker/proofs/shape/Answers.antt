@@ -1,7 +1,9 @@
 use mathlib.Core.Path.{◌≡◌, refl, sym, ◌∙◌}
-use mathlib.Core.Bool.{true, false}
+use mathlib.Core.Bool.{true}
 use Prim.Native.Nat.{ℕ, ◌*◌, ◌≤◌}
 use native.Mathlib.Omega.{arith}
+use Rattle.std.specs.Prelude.{Result, Ok, Err}
+use Rattle.tables.specs.declared.Rule.{Rule}
 use lib.ListN.{length, get_or}
 use Rattle.tables.specs.Answers.{yes, rule}
 use Rattle.tables.specs.Data.{point_count}
@@ -12,14 +14,14 @@ use Rattle.checker.proofs.Parts.{corners_of, few_of, index_none, rule_no, rule_s
 use Rattle.checker.proofs.shape.Goals as goal
 use Rattle.checker.proofs.shape.Goals.{After-build, Else-not-triples_proper}
 
-no : {a : ℕ} {X : Type 0} → (a ≡ 0 → ⊥) → a ≡ 0 → X
-no f e = absurd (f e)
+no : {k : Rule} {X : Type 0} → ◌≡◌ {A = Result (Unit {0}) Rule} (Err k) (Ok tt) → X
+no e = absurd (let z : ◌≡◌ {A = ℕ} 0 1 = cc in omega arith)
 
 pub returns-then-not-triples_proper : goal.returns-then-not-triples_proper
 returns-then-not-triples_proper c = record {
   answer = rule_no 1 (rule 2 (rule2 c.args.list.now) yes) (sym c.triples_proper.ensures ∙ c.if-not-triples_proper.true);
-  listed = no (λ e. let b : ⊥ = omega arith in b);
-  few = no (λ e. let b : ⊥ = omega arith in b);
+  listed = no;
+  few = no;
   size = refl;
   rest = λ p l. refl;
 }
@@ -64,8 +66,8 @@ returns-then-edges_once c = record {
 pub returns-else-edges_once : goal.returns-else-edges_once
 returns-else-edges_once c = record {
   answer = rule_so 1 _ (holds (goal.at.returns-else-edges_once c).Else-not-triples_proper) (rule_no 2 _ (sym c.edges_once.ensures ∙ c.if-edges_once.false));
-  listed = no (λ q. let k : ⊥ = omega arith in k);
-  few = no (λ q. let k : ⊥ = omega arith in k);
+  listed = no;
+  few = no;
   size = c.build.ensures.1.size;
   rest = rest (goal.at.returns-else-edges_once c).After-build;
 }

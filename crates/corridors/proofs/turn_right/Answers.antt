@@ -1,9 +1,7 @@
-use mathlib.Core.Path.{ap, ◌∙◌}
-use Prim.Native.Nat.{ℕ, ◌+◌, ◌-◌, ◌*◌, ◌<◌}
+use Prim.Native.Nat.{◌*◌, ◌<◌}
 use native.Mathlib.Omega.{arith}
 use Rattle.plane.specs.Halfedges.{nxt}
 use Rattle.nets.proofs.Slot.{nxt_in}
-use Rattle.chains.specs.Walks.{enter_w}
 use Rattle.corridors.proofs.turn_right.Goals as goal
 
 pub enter-requires : goal.enter-requires
@@ -12,11 +10,3 @@ enter-requires c = let s = c.args in
     let e = c.next-o.ensures in
     let q : nxt s.y < 3 * (2 * s.n) = nxt_in s.y (2 * s.n) (omega arith) in
     (p.0, omega arith, p.3, omega arith, omega arith, omega arith, p.4)
-
-pub returns : goal.returns
-returns c = let s = c.args in (
-  c.previous.ensures,
-  c.enter.ensures
-      ∙ ap (λ (u : ℕ). enter_w s.n s.work.now (s.l + s.r - 1) s.y u (2 * s.n - 2 - s.r) (2 * s.n - 2 - s.r) s.c)
-      c.next-o.ensures,
-)

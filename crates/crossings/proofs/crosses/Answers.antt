@@ -1,26 +1,12 @@
-use mathlib.Core.Path.{◌≡◌, refl}
-use mathlib.Core.List.{List, [], ◌∷◌}
-use lib.IntN.{ℤ}
-use Rattle.tables.specs.Refusals.{crosses}
-use Rattle.segments.proofs.Points.{row, also, near_passed, read4}
+use Rattle.std.proofs.Common.{[], ◌∷◌, refl}
+use Rattle.segments.proofs.Points.{also, near_read}
 use Rattle.crossings.proofs.crosses.Goals as goal
-use Rattle.crossings.proofs.crosses.Goals.{After-y_at-dy}
-
--- The coordinates that were read are those of the points.
-abbrev ρ : After-y_at-dy → List ℤ
-ρ c = c.x_at-ax.result ∷ c.y_at-ay.result ∷ c.x_at-bx.result ∷ c.y_at-by.result ∷ c.x_at-cx.result ∷ c.y_at-cy.result ∷ c.x_at-dx.result ∷ c.y_at-dy.result ∷ []
-
-read : (c : After-y_at-dy) → ρ c ≡ row c.args.points.now (c.args.a ∷ c.args.b ∷ c.args.c ∷ c.args.d ∷ [])
-read c =
-    let ps = c.args.points.now in
-    also ps c.args.a (c.args.b ∷ c.args.c ∷ c.args.d ∷ []) c.x_at-ax.ensures
-    c.y_at-ay.ensures
-    (also ps c.args.b (c.args.c ∷ c.args.d ∷ []) c.x_at-bx.ensures c.y_at-by.ensures
-    (also ps c.args.c (c.args.d ∷ []) c.x_at-cx.ensures c.y_at-cy.ensures
-    (also ps c.args.d [] c.x_at-dx.ensures c.y_at-dy.ensures refl)))
-
-pub returns : goal.returns
-returns c = read4 c.args.points.now c.requires.near crosses c.args.a c.args.b c.args.c c.args.d (read (goal.at.returns c).After-y_at-dy) c.crosses_xy.ensures
 
 pub crosses_xy-requires : goal.crosses_xy-requires
-crosses_xy-requires c = near_passed c.args.points.now c.requires.near (c.args.a ∷ c.args.b ∷ c.args.c ∷ c.args.d ∷ []) (read (goal.at.crosses_xy-requires c).After-y_at-dy)
+crosses_xy-requires c =
+    let ps = c.args.points.now in
+    near_read ps c.requires.near (c.args.a ∷ c.args.b ∷ c.args.c ∷ c.args.d ∷ [])
+    (also ps c.args.a (c.args.b ∷ c.args.c ∷ c.args.d ∷ []) c.point_at-a.ensures
+    (also ps c.args.b (c.args.c ∷ c.args.d ∷ []) c.point_at-b.ensures
+    (also ps c.args.c (c.args.d ∷ []) c.point_at-c.ensures
+    (also ps c.args.d [] c.point_at-d.ensures refl))))

@@ -1,35 +1,37 @@
-use mathlib.Core.Path.{◌≡◌, refl, sym}
-use mathlib.Core.Bool.{Bool}
+use mathlib.Core.Path.{◌≡◌, refl, sym, ◌∙◌}
+use mathlib.Core.Bool.{false, true≢false}
 use mathlib.Core.List.{List, [], ◌∷◌}
 use lib.IntN.{ℤ}
-use Rattle.plane.specs.Determinants.{orient}
-use Rattle.tables.specs.Refusals.{opposed}
+use Rattle.algebra.proofs.Ring.{look}
+use Rattle.signs.specs.Points.{pt_of}
+use Rattle.tables.specs.Refusals.{crosses}
 use Rattle.crossings.specs.Boxes.{apart}
-use Rattle.segments.proofs.Points.{four, told4, again}
-use Rattle.crossings.proofs.Inside.{crossing}
+use Rattle.crossings.proofs.Passed.{told}
+use Rattle.crossings.proofs.Inside.{crossing, not_told}
 use Rattle.crossings.proofs.Apart.{apart_x, apart_y}
 use Rattle.crossings.proofs.crosses_xy.Goals as goal
-use Rattle.crossings.proofs.crosses_xy.Goals.{After-on_both_sides, Start}
+use Rattle.crossings.proofs.crosses_xy.Goals.{Start, Else-on_both_sides, then-not-ranges_apart, else-not-ranges_apart, then-not-ranges_apart-2, else-not-ranges_apart-2}
 
 abbrev ρ : Start → List ℤ
-ρ c = c.args.ax ∷ c.args.ay ∷ c.args.bx ∷ c.args.by ∷ c.args.cx ∷ c.args.cy ∷ c.args.dx ∷ c.args.dy ∷ []
-
-pub returns-then-ranges_apart : goal.returns-then-ranges_apart
-returns-then-ranges_apart c = sym (apart_y _ _ _ _ (told4 (ρ (goal.at.returns-then-ranges_apart c).Start) c.requires (λ a b c d. apart a.y b.y c.y d.y) c.ranges_apart.ensures c.if-ranges_apart.true))
-
-pub returns-then-ranges_apart-2 : goal.returns-then-ranges_apart-2
-returns-then-ranges_apart-2 c = sym (apart_x _ _ _ _ (told4 (ρ (goal.at.returns-then-ranges_apart-2 c).Start) c.requires (λ a b c d. apart a.x b.x c.x d.x) c.ranges_apart-2.ensures c.if-ranges_apart-2.true))
-
--- These are the answers for c and d against the line through a and b, and for a and b against the line through c and d.
-sides : (c : After-on_both_sides) {v : Bool} → c.on_both_sides.result ≡ v → four (λ a b c d. opposed (orient a b c) (orient a b d)) (ρ c.before.before.before.before.before) ≡ v
-sides c h =
-    told4 (ρ c.before.before.before.before.before) c.requires (λ a b c d. opposed (orient a b c) (orient a b d)) c.on_both_sides.ensures h
+ρ c = c.args.a.x ∷ c.args.a.y ∷ c.args.b.x ∷ c.args.b.y ∷ c.args.c.x ∷ c.args.c.y ∷ c.args.d.x ∷ c.args.d.y ∷ []
 
 pub returns-then-on_both_sides : goal.returns-then-on_both_sides
-returns-then-on_both_sides c = sym (crossing _ _ _ _ (sides (goal.at.returns-then-on_both_sides c).After-on_both_sides c.if-on_both_sides.true) (told4 (ρ (goal.at.returns-then-on_both_sides c).Start) c.requires (λ a b c d. opposed (orient c d a) (orient c d b)) c.on_both_sides-then-on_both_sides.ensures refl))
+returns-then-on_both_sides c = elim c.if-not-ranges_apart-2.branch [
+  | then-not-ranges_apart-2 w ↦ sym (crossing _ _ _ _ (sym w.on_both_sides.ensures ∙ sym w.value-is ∙ c.if-on_both_sides.true) (sym c.on_both_sides-then-on_both_sides.ensures))
+  | else-not-ranges_apart-2 w ↦ absurd (true≢false (sym c.if-on_both_sides.true ∙ w.value-is ∙ w.if-not-ranges_apart-2.false))
+]
+
+-- Ranges with a gap were passed coordinates that went through bits.
+none : (c : Else-on_both_sides) → crosses (pt_of c.args.a) (pt_of c.args.b) (pt_of c.args.c) (pt_of c.args.d) ≡ false
+none c = elim c.if-not-ranges_apart-2.branch [
+  | then-not-ranges_apart-2 w ↦ crossing _ _ _ _ (sym w.on_both_sides.ensures ∙ sym w.value-is ∙ c.if-on_both_sides.false) refl
+  | else-not-ranges_apart-2 w ↦ elim c.if-not-ranges_apart.branch [
+    | then-not-ranges_apart u ↦ apart_x _ _ _ _ (told (ρ (goal.at.returns-else-on_both_sides c).Start) c.requires (0 ∷ 2 ∷ 4 ∷ 6 ∷ [])
+        (λ (xs : List ℤ). apart (look xs 0) (look xs 1) (look xs 2) (look xs 3)) u.ranges_apart-then-not-ranges_apart.ensures (not_told _ (sym u.value-is ∙ w.if-not-ranges_apart-2.false)))
+    | else-not-ranges_apart u ↦ apart_y _ _ _ _ (told (ρ (goal.at.returns-else-on_both_sides c).Start) c.requires (1 ∷ 3 ∷ 5 ∷ 7 ∷ [])
+        (λ (ys : List ℤ). apart (look ys 0) (look ys 1) (look ys 2) (look ys 3)) c.ranges_apart.ensures u.if-not-ranges_apart.false)
+  ]
+]
 
 pub returns-else-on_both_sides : goal.returns-else-on_both_sides
-returns-else-on_both_sides c = sym (crossing _ _ _ _ (sides (goal.at.returns-else-on_both_sides c).After-on_both_sides c.if-on_both_sides.false) refl)
-
-pub on_both_sides-requires-then-on_both_sides : goal.on_both_sides-requires-then-on_both_sides
-on_both_sides-requires-then-on_both_sides c = again (ρ (goal.at.on_both_sides-requires-then-on_both_sides c).Start) c.requires (4 ∷ 5 ∷ 6 ∷ 7 ∷ 0 ∷ 1 ∷ 2 ∷ 3 ∷ [])
+returns-else-on_both_sides c = c.if-on_both_sides.false ∙ sym (none c)

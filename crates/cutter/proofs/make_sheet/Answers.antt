@@ -1,14 +1,14 @@
 use mathlib.Core.Path.{refl, subst}
-use Prim.Native.Nat.{◌-◌, ◌<◌}
+use Prim.Native.Nat.{◌<◌}
 use native.Mathlib.Omega.{arith}
 use Rattle.tables.specs.Data.{point_count, pair_count}
 use Rattle.nets.specs.Layout.{Kept}
 use Rattle.stages.specs.Stages.{Ground}
 use Rattle.recovery.specs.Lines.{Lined, AllGo}
 use Rattle.cutter.specs.Cuts.{Passed}
-use Rattle.cutter.proofs.Cuts.{is_figure, work_room, few, clear_asked, lined, long3, stuck_left, sheet_asked, long4, sheet_left, written}
+use Rattle.cutter.proofs.Cuts.{is_figure, work_room, clear_asked, lined, long3, stuck_left, sheet_asked, long4, sheet_left, written}
 use Rattle.cutter.proofs.make_sheet.Goals as goal
-use Rattle.cutter.proofs.make_sheet.Goals.{In_default, In-Stuck}
+use Rattle.cutter.proofs.make_sheet.Goals.{In_default, In-Err}
 
 pub build-count-requires : goal.build-count-requires
 build-count-requires c =
@@ -65,10 +65,10 @@ returns-in_default c =
     }
 
 -- one is stuck
-at : (c : In-Stuck) →
-    (c.in-Stuck.k < pair_count c.args.pairs.now) × Ground c.args.points.now c.args.pairs.now c.in-Stuck.k ×
+at : (c : In-Err) →
+    (c.in-Err.stuck.pair < pair_count c.args.pairs.now) × Ground c.args.points.now c.args.pairs.now c.in-Err.stuck.pair ×
     Kept (point_count c.args.points.now) c.clear_rows.new.work c.recover_pairs.new.work
-at c = subst (AllGo c.args.points.now c.args.pairs.now c.clear_rows.new.work c.build-count.result c.recover_pairs.new.work) c.in-Stuck.is c.recover_pairs.ensures
+at c = subst (AllGo c.args.points.now c.args.pairs.now c.clear_rows.new.work c.build-count.result c.recover_pairs.new.work) c.in-Err.is c.recover_pairs.ensures
 
 pub overflow_mul-n-2 : goal.overflow_mul-n-2
 overflow_mul-n-2 c =
@@ -81,7 +81,7 @@ overflow_mul-n-2 c =
 pub clear-requires-2 : goal.clear-requires-2
 clear-requires-2 c =
     long3 c.args.points.now c.args.pairs.now c.args.out.now c.args.work.now c.requires c.build-count.ensures c.clear_rows.ensures
-    (at (goal.at.clear-requires-2 c).In-Stuck).2
+    (at (goal.at.clear-requires-2 c).In-Err).2
 
 pub returns : goal.returns
 returns c =
@@ -89,7 +89,7 @@ returns c =
     let qs = c.args.pairs.now in
     let out = c.args.out.now in
     let w = c.args.work.now in
-    let h = at (goal.at.returns c).In-Stuck in record {
-      passed = Passed.stuck c.in-Stuck.k h.0 h.1 refl;
+    let h = at (goal.at.returns c).In-Err in record {
+      passed = Passed.stuck c.in-Err.stuck.pair h.0 h.1 refl;
       work_after = stuck_left ps qs out w c.requires c.build-count.ensures c.clear_rows.ensures h.2 c.clear-2.ensures;
     }

@@ -1,21 +1,14 @@
-use mathlib.Core.Path.{refl, sym, ◌∙◌}
+use mathlib.Core.Path.{refl, sym, ap, ◌∙◌}
+use Rattle.std.specs.Prelude.{Err}
+use Rattle.std.proofs.lemmas.Result.{err_from_is_err_and}
 use Prim.Native.Nat.{ℕ, ◌+◌, ◌-◌, ◌*◌, ◌<◌}
 use native.Mathlib.Omega.{arith}
 use Rattle.tables.specs.Data.{point}
-use Rattle.chains.specs.Fillings.{Filled}
-use Rattle.seams.proofs.Fitting.{row_fits, can_move}
-use Rattle.fillings.proofs.Parts.{Based, s_low, room0, filled_gap, filled_node, stuck_here, stuck_before, stuck_after}
+use Rattle.fillings.proofs.Parts.{Based, s_low, room0, filled_gap, filled_node, stuck_here, stuck_before, stuck_after, came_stuck}
 use Rattle.fillings.proofs.+fill.Goals as goal
 use Rattle.fillings.proofs.+fill.Goals.{After-cut_over-s}
 
 -- ---- a gap
-pub move_to-requires : goal.move_to-requires
-move_to-requires t c = let x = c.args in
-    let p = c.requires.room in
-    let l = p.4 in
-    let j = p.2 in
-    let i = p.1 in can_move x.n x.count x.work.now p.0 (6 * x.n + x.i) x.top (omega arith) (omega arith)
-
 pub returns-then-j-i : goal.returns-then-j-i
 returns-then-j-i t c = let x = c.args in
     let p = c.requires.room in
@@ -26,8 +19,7 @@ pub returns-then-not-is_over : goal.returns-then-not-is_over
 returns-then-not-is_over t c = let x = c.args in
     let i = c.requires.room.1 in
     let z = c.if-j-i.false in
-    stuck_here (point x.points.now) x.n x.count x.work.now x.i x.j c.choose-k.result (omega arith) c.choose-k.ensures.0
-    (sym c.is_over.ensures ∙ c.if-not-is_over.true)
+    stuck_here (point x.points.now) x.n x.count x.work.now x.i x.j c.choose-k.result (omega arith) c.choose-k.ensures.0 (sym c.is_over.ensures ∙ c.if-not-is_over.true)
 
 -- ---- the triangle over the base is cut
 based : (t : ℕ) (c : After-cut_over-s t) →
@@ -70,43 +62,21 @@ fill-requires t c =
       (c.requires.figure, (room0 (point c.args.points.now) c.args.n c.args.count (based t d), ik, omega arith, omega arith, omega arith)),
     )
 
-pub returns-in_default : goal.returns-in_default
-returns-in_default t c = stuck_before (point c.args.points.now) c.args.n c.args.count (based t (goal.at.returns-in_default t c).After-cut_over-s)
-    (rw c.in_default.is at c.fill.ensures)
+-- a part of it sticks
+pub returns-in_err-fill : goal.returns-in_err-fill
+returns-in_err-fill t c =
+    let k = err_from_is_err_and c.from_residual.result c.from_residual.ensures.1 in
+    let e = c.in_err-fill.ensures in
+    came_stuck (point c.args.points.now) c.args.n c.args.count c.args.p c.args.top (k.1 ∙ ap Err k.2) e.0 (stuck_before (point c.args.points.now) c.args.n c.args.count (based t (goal.at.returns-in_err-fill t c).After-cut_over-s) (e.1, e.2))
 
-pub fill-requires-2 : goal.fill-requires-2
-fill-requires-2 t c =
-    let m = c.decreases in
-    let p = c.requires.room in
-    let i = p.1 in
-    let j = p.2 in
-    let f = p.3 in
-    let ik = c.choose-k.ensures.1 in
-    let kj = c.choose-k.ensures.2 in
-    let l = slot_low t (goal.at.fill-requires-2 t c).After-cut_over-s in
-    let filled : Filled (point c.args.points.now) c.args.n c.args.count c.cut_over-s.new.work c.args.i c.choose-k.result c.args.p
-    (3 * c.cut_over-s.result + 2) c.fill.new.work = rw c.in-Done.is at c.fill.ensures in (
-      omega arith,
-      (c.requires.figure, (filled.room, kj, j, omega arith, omega arith)),
-    )
+pub returns-in_err-fill-2 : goal.returns-in_err-fill-2
+returns-in_err-fill-2 t c =
+    let k = err_from_is_err_and c.from_residual-in_err-fill-2.result c.from_residual-in_err-fill-2.ensures.1 in
+    let e = c.in_err-fill-2.ensures in
+    came_stuck (point c.args.points.now) c.args.n c.args.count c.args.p c.args.top (k.1 ∙ ap Err k.2) e.0
+    (stuck_after (point c.args.points.now) c.args.n c.args.count (based t (goal.at.returns-in_err-fill-2 t c).After-cut_over-s) c.in_ok-fill.ensures (e.1, e.2))
 
--- ---- the first part is filled
-pub returns-in_default-fill : goal.returns-in_default-fill
-returns-in_default-fill t c =
-    stuck_after (point c.args.points.now) c.args.n c.args.count (based t (goal.at.returns-in_default-fill t c).After-cut_over-s)
-    (rw c.in-Done.is at c.fill.ensures) (rw c.in_default-fill.is at c.fill-2.ensures)
-
-pub join-requires : goal.join-requires
-join-requires t c =
-    let top = c.requires.room.4 in
-    let l = slot_low t (goal.at.join-requires t c).After-cut_over-s in
-    let filled : Filled (point c.args.points.now) c.args.n c.args.count c.fill.new.work c.choose-k.result c.args.j
-    (c.args.p + (c.choose-k.result - c.args.i - 1)) (3 * c.cut_over-s.result + 1) c.fill-2.new.work = rw c.in-Done-fill.is at c.fill-2.ensures in (
-      row_fits c.args.n c.args.count c.fill-2.new.work filled.room (3 * c.cut_over-s.result) (omega arith),
-      row_fits c.args.n c.args.count c.fill-2.new.work filled.room c.args.top (omega arith),
-    )
-
+-- both parts are filled
 pub returns : goal.returns
 returns t c =
-    filled_node (point c.args.points.now) c.args.n c.args.count (based t (goal.at.returns t c).After-cut_over-s)
-    (rw c.in-Done.is at c.fill.ensures) (rw c.in-Done-fill.is at c.fill-2.ensures) c.join.ensures
+    filled_node (point c.args.points.now) c.args.n c.args.count (based t (goal.at.returns t c).After-cut_over-s) c.in_ok-fill.ensures c.in_ok-fill-2.ensures c.join.ensures

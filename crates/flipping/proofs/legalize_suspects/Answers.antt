@@ -2,9 +2,14 @@ use mathlib.Core.Path.{◌≡◌}
 use Prim.Native.Nat.{◌+◌, ◌-◌, ◌*◌, ◌≤◌, ◌<◌}
 use native.Mathlib.Omega.{arith}
 use lib.ListN.{length}
-use Rattle.flipping.proofs.Live.{left, Popped, live_start, live_end, live_pop, pop_same, pop_falls, live_stay, live_turn, turn_less, found_some, found_low, found_reborn, ready_range}
+use Rattle.std.specs.Prelude.{Some}
+use Rattle.tables.specs.Data.{point}
+use Rattle.tables.specs.Rules.{rank}
+use Rattle.nets.specs.Layout.{net_of}
+use Rattle.wants.specs.Tries.{First}
+use Rattle.flipping.proofs.Live.{left, Popped, live_start, live_end, live_pop, pop_same, pop_falls, live_stay, live_turn, turn_less, first_low, found_some, found_low, found_reborn, ready_range}
 use Rattle.flipping.proofs.legalize_suspects.Goals as goal
-use Rattle.flipping.proofs.legalize_suspects.Goals.{After-pop-t}
+use Rattle.flipping.proofs.legalize_suspects.Goals.{After-pop-t, In-Some}
 
 pub loop-m-init : goal.loop-m-init
 loop-m-init c = let x = c.args in
@@ -39,39 +44,45 @@ room c =
     let e = c.requires.figure.0.few in
     (omega arith, omega arith)
 
-pub first_edge-e-requires : goal.first_edge-e-requires
-first_edge-e-requires c = (c.requires.figure.0, (popped (goal.at.first_edge-e-requires c).After-pop-t).ready, (popped (goal.at.first_edge-e-requires c).After-pop-t).slot)
+pub first_edge-requires : goal.first_edge-requires
+first_edge-requires c = (c.requires.figure.0, (popped (goal.at.first_edge-requires c).After-pop-t).ready, (popped (goal.at.first_edge-requires c).After-pop-t).slot)
 
 -- an edge flips
+edge : (c : In-Some) → First (point c.args.points.now) (rank c.args.points.now) (net_of c.pop-t.new.work c.args.count) c.pop-t.result (Some c.in-Some.e)
+edge c = rw c.in-Some.is at c.first_edge.ensures
+
+low : (c : In-Some) → c.in-Some.e < 3
+low c = first_low (edge c)
+
 pub bounds-work-t : goal.bounds-work-t
-bounds-work-t c = let r = room (goal.at.bounds-work-t c).After-pop-t in let e = c.if-e-lt3.true in omega arith
+bounds-work-t c = let r = room (goal.at.bounds-work-t c).After-pop-t in let e = low (goal.at.bounds-work-t c).In-Some in omega arith
 
 pub overflow_cast-g : goal.overflow_cast-g
-overflow_cast-g c = omega (arith, c.type_inv.work (16 * c.pop-t.result + 3 + c.first_edge-e.result))
+overflow_cast-g c = omega (arith, c.type_inv.work (16 * c.pop-t.result + 3 + c.in-Some.e))
 
 pub overflow_sub-g : goal.overflow_sub-g
-overflow_sub-g c = found_some (popped (goal.at.overflow_sub-g c).After-pop-t) c.first_edge-e.ensures c.if-e-lt3.true
+overflow_sub-g c = found_some (popped (goal.at.overflow_sub-g c).After-pop-t) (edge (goal.at.overflow_sub-g c).In-Some)
 
 pub flip-requires : goal.flip-requires
 flip-requires c = let o = popped (goal.at.flip-requires c).After-pop-t in
-    record { in_range = ready_range o.ready c.requires.figure.0; h_bound = found_low o c.first_edge-e.ensures c.if-e-lt3.true }
+    record { in_range = ready_range o.ready c.requires.figure.0; h_bound = found_low o (edge (goal.at.flip-requires c).In-Some) }
 
 pub rebirth-m-requires : goal.rebirth-m-requires
-rebirth-m-requires c = let the_clauses = found_reborn (popped (goal.at.rebirth-m-requires c).After-pop-t) c.first_edge-e.ensures c.if-e-lt3.true c.requires.figure.0 c.flip.ensures in record { count_in_bounds = the_clauses.0; suspects = the_clauses.1 }
+rebirth-m-requires c = let the_clauses = found_reborn (popped (goal.at.rebirth-m-requires c).After-pop-t) (edge (goal.at.rebirth-m-requires c).In-Some) c.requires.figure.0 c.flip.ensures in record { count_in_bounds = the_clauses.0; suspects = the_clauses.1 }
 
-pub loop-m-smaller-then-e-lt3 : goal.loop-m-smaller-then-e-lt3
-loop-m-smaller-then-e-lt3 c = let a = turn_less (popped (goal.at.loop-m-smaller-then-e-lt3 c).After-pop-t) c.first_edge-e.ensures c.if-e-lt3.true c.requires.figure.0 c.flip.ensures c.rebirth-m.ensures in
-    let b = same (goal.at.loop-m-smaller-then-e-lt3 c).After-pop-t in
+pub loop-m-smaller-in-Some : goal.loop-m-smaller-in-Some
+loop-m-smaller-in-Some c = let a = turn_less (popped (goal.at.loop-m-smaller-in-Some c).After-pop-t) (edge (goal.at.loop-m-smaller-in-Some c).In-Some) c.requires.figure.0 c.flip.ensures c.rebirth-m.ensures in
+    let b = same (goal.at.loop-m-smaller-in-Some c).After-pop-t in
     omega arith
 
-pub loop-m-preserved-then-e-lt3 : goal.loop-m-preserved-then-e-lt3
-loop-m-preserved-then-e-lt3 c = live_turn (popped (goal.at.loop-m-preserved-then-e-lt3 c).After-pop-t) c.first_edge-e.ensures c.if-e-lt3.true c.requires.figure.0 c.flip.ensures c.rebirth-m.ensures
+pub loop-m-preserved-in-Some : goal.loop-m-preserved-in-Some
+loop-m-preserved-in-Some c = live_turn (popped (goal.at.loop-m-preserved-in-Some c).After-pop-t) (edge (goal.at.loop-m-preserved-in-Some c).In-Some) c.requires.figure.0 c.flip.ensures c.rebirth-m.ensures
 
 pub loop-m-smaller : goal.loop-m-smaller
 loop-m-smaller c = fewer (goal.at.loop-m-smaller c).After-pop-t
 
 pub loop-m-preserved : goal.loop-m-preserved
-loop-m-preserved c = live_stay (popped (goal.at.loop-m-preserved c).After-pop-t) c.first_edge-e.ensures c.if-e-lt3.false
+loop-m-preserved c = live_stay (popped (goal.at.loop-m-preserved c).After-pop-t) (rw c.in_default.is at c.first_edge.ensures)
 
 pub returns : goal.returns
 returns c = live_end c.loop-m.invariant (let z = c.loop-m-test.false in omega arith)
@@ -82,17 +93,17 @@ overflow_mul-g c = let r = room (goal.at.overflow_mul-g c).After-pop-t in omega 
 pub overflow_add-g : goal.overflow_add-g
 overflow_add-g c = let r = room (goal.at.overflow_add-g c).After-pop-t in omega arith
 
-pub overflow_add-g-then-e-lt3 : goal.overflow_add-g-then-e-lt3
-overflow_add-g-then-e-lt3 c = let r = room (goal.at.overflow_add-g-then-e-lt3 c).After-pop-t in omega arith
+pub overflow_add-g-in-Some : goal.overflow_add-g-in-Some
+overflow_add-g-in-Some c = let r = room (goal.at.overflow_add-g-in-Some c).After-pop-t in let e = low (goal.at.overflow_add-g-in-Some c).In-Some in omega arith
 
 pub offset_bounds-work-t : goal.offset_bounds-work-t
-offset_bounds-work-t c = let r = room (goal.at.offset_bounds-work-t c).After-pop-t in omega arith
+offset_bounds-work-t c = let r = room (goal.at.offset_bounds-work-t c).After-pop-t in let e = low (goal.at.offset_bounds-work-t c).In-Some in omega arith
 
 pub overflow_mul-t : goal.overflow_mul-t
 overflow_mul-t c = let r = room (goal.at.overflow_mul-t c).After-pop-t in omega arith
 
 pub overflow_add-t : goal.overflow_add-t
-overflow_add-t c = let r = room (goal.at.overflow_add-t c).After-pop-t in omega arith
+overflow_add-t c = let r = room (goal.at.overflow_add-t c).After-pop-t in let e = low (goal.at.overflow_add-t c).In-Some in omega arith
 
 pub shape_of-work : goal.shape_of-work
 shape_of-work c = c.loop-m.invariant.kept.len

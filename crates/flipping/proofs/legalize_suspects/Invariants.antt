@@ -1,4 +1,3 @@
-use Prim.Native.Nat.{◌-◌}
 use Rattle.flipping.proofs.Live.{left, Live}
 use Rattle.flipping.proofs.legalize_suspects.Given as goal
 

@@ -1,31 +1,24 @@
-use Rattle.std.proofs.Common.{◌≡◌, Bool, true, false, sym, ap, ◌∙◌}
-use lib.Ieee.{Float, binary64, mul, lt, of_bits}
-use lib.Ieee.Scale.{finite}
+use Rattle.std.proofs.Common.{Some, ◌≡◌, Bool, false, sym, ap, ◌∙◌}
+use lib.Ieee.{Float, lt, of_bits}
+use Rattle.std.specs.Float.{float_with_sign}
 use Rattle.floats.specs.Whole.{abs_f}
-use Rattle.float_signs.specs.declared.Filtered.TheVariants.{Sure}
 use Rattle.float_signs.proofs.Filtering.{small, infinite, near, far}
+use Rattle.float_signs.proofs.Library.{finite_told, abs_told}
 use Rattle.float_signs.proofs.certify.Goals as goal
-use Rattle.float_signs.proofs.certify.Goals.{After-abs, After-is_finite}
+use Rattle.float_signs.proofs.certify.Goals.{else-permanent-via-then-permanent+then-is_finite+else-abs-errbound, else-permanent-via-then-permanent+else-is_finite, else-permanent-via-else-permanent}
 
-fin? : (c : After-is_finite) (b : Bool) → c.is_finite.result ≡ b → finite c.args.permanent ≡ b
-fin? c b h = sym c.is_finite.ensures ∙ h
-
-size : (c : After-abs) (b : Bool) → lt (mul binary64 c.args.errbound c.args.permanent) c.abs.result ≡ b
-    → lt (mul binary64 c.args.errbound c.args.permanent) (abs_f c.args.det) ≡ b
-size c b h = ap (λ (q : Float). lt (mul binary64 c.args.errbound c.args.permanent) q) (sym c.abs.ensures) ∙ h
+-- a test of det's size
+size : (k det : Float) {a : Float} {b : Bool} → a ≡ float_with_sign false det → lt k a ≡ b → lt k (abs_f det) ≡ b
+size k det e h = ap (λ (q : Float). lt k q) (sym (abs_told det e)) ∙ h
 
 pub returns-then-abs-errbound : goal.returns-then-abs-errbound
 unfolding of_bits
-returns-then-abs-errbound c = ap Sure c.of_f64.ensures ∙ far _ _ _ c.if-permanent.true (fin? (goal.at.returns-then-abs-errbound c).After-is_finite true c.if-is_finite.true) (size (goal.at.returns-then-abs-errbound c).After-abs true c.if-abs-errbound.true)
-
-pub returns-else-abs-errbound : goal.returns-else-abs-errbound
-unfolding of_bits
-returns-else-abs-errbound c = near _ _ _ c.if-permanent.true (fin? (goal.at.returns-else-abs-errbound c).After-is_finite true c.if-is_finite.true) (size (goal.at.returns-else-abs-errbound c).After-abs false c.if-abs-errbound.false)
-
-pub returns-else-is_finite : goal.returns-else-is_finite
-unfolding of_bits
-returns-else-is_finite c = infinite _ _ _ c.if-permanent.true (fin? (goal.at.returns-else-is_finite c).After-is_finite false c.if-is_finite.false)
+returns-then-abs-errbound c = ap Some c.of_f64.ensures ∙ far _ _ _ c.if-permanent.true (finite_told _ c.is_finite.ensures.value c.if-is_finite.true) (size _ _ c.abs.ensures.value c.if-abs-errbound.true)
 
 pub returns-else-permanent : goal.returns-else-permanent
 unfolding of_bits
-returns-else-permanent c = small _ _ _ c.if-permanent.false
+returns-else-permanent c = elim c.else-permanent.branch [
+  | else-permanent-via-then-permanent+then-is_finite+else-abs-errbound w ↦ near _ _ _ w.if-permanent.true (finite_told _ w.is_finite.ensures.value w.if-is_finite.true) (size _ _ w.abs.ensures.value w.if-abs-errbound.false)
+  | else-permanent-via-then-permanent+else-is_finite w ↦ infinite _ _ _ w.if-permanent.true (finite_told _ w.is_finite.ensures.value w.if-is_finite.false)
+  | else-permanent-via-else-permanent w ↦ small _ _ _ w.if-permanent.false
+]

@@ -1,4 +1,4 @@
-use Rattle.std.proofs.Common.{◌≡◌, ℕ, suc, ◌+◌, ◌-◌, ◌/◌, ◌^◌, ◌<◌, true, false, T, sym, ap, ◌∙◌, subst, ap₂, mod-lt, arith, pow_pos}
+use Rattle.std.proofs.Common.{Option, ◌≡◌, ℕ, suc, ◌+◌, ◌-◌, ◌/◌, ◌^◌, ◌<◌, true, false, T, sym, ap, ◌∙◌, subst, ap₂, mod-lt, arith, pow_pos}
 use lib.Bits.{bit_and, bit_or, and_mask, or_shifted_r}
 use lib.Ieee.{Float, binary64, of_bits, to_bits, fits, odd, lt, eq}
 use lib.Ieee.Scale.{finite}
@@ -6,17 +6,18 @@ use Rattle.float_signs.specs.Parts.{decomp_of, Reduced}
 use Rattle.float_signs.specs.declared.Dyadic.{Dyadic}
 use Rattle.floats.proofs.Zero.{O}
 use Rattle.float_signs.proofs.Mantissa.{biased_of, frac_of, small_field, large_field, infinite, zeros, no_nan, reduced}
+use Rattle.float_signs.proofs.Library.{finite_told}
 use Rattle.float_signs.proofs.decomp.Goals as goal
 use Rattle.float_signs.proofs.decomp.Goals.{Else-biased-eq0, Else-v, Start, Then-biased-eq0, Then-is_finite}
 
 held : (c : Start) → T (fits binary64 c.args.v)
 held c = subst T (sym c.well_formed.0.1) tt
 
-both : (c : Start) {r : Dyadic} → r ≡ decomp_of c.args.v → (r ≡ decomp_of c.args.v) × Reduced r
+both : (c : Start) {r : Option Dyadic} → r ≡ decomp_of c.args.v → (r ≡ decomp_of c.args.v) × Reduced r
 both c {r} h = (h, subst Reduced (sym h) (reduced c.args.v (held c)))
 
 is_fin : (c : Then-is_finite) → finite c.args.v ≡ true
-is_fin c = sym c.is_finite.ensures ∙ c.if-is_finite.true
+is_fin c = finite_told _ c.is_finite.ensures.value c.if-is_finite.true
 
 pub returns-then-v : goal.returns-then-v
 unfolding of_bits
@@ -79,4 +80,4 @@ returns-else-biased-eq0 c = let x = v (goal.at.returns-else-biased-eq0 c).Else-v
     let the_clauses = both (goal.at.returns-else-biased-eq0 c).Start (c.parts-else-biased-eq0.ensures ∙ ap₂ (λ (k l : ℕ). decomp_of (odd 53 (lt x O) k (l - 1) 1074)) (whole_is x) (biased_is x) ∙ ap decomp_of (high (goal.at.returns-else-biased-eq0 c).Else-biased-eq0).1) in record { parts = the_clauses.0; reduced = the_clauses.1 }
 
 pub returns-else-is_finite : goal.returns-else-is_finite
-returns-else-is_finite c = let the_clauses = both (goal.at.returns-else-is_finite c).Start (infinite _ (sym c.is_finite.ensures ∙ c.if-is_finite.false)) in record { parts = the_clauses.0; reduced = the_clauses.1 }
+returns-else-is_finite c = let the_clauses = both (goal.at.returns-else-is_finite c).Start (infinite _ (finite_told _ c.is_finite.ensures.value c.if-is_finite.false)) in record { parts = the_clauses.0; reduced = the_clauses.1 }

@@ -1,11 +1,10 @@
-use Rattle.std.proofs.Common.{◌≡◌, ℕ, zero, suc, ◌+◌, ◌/◌, ◌^◌, ◌<◌, ◌≤◌, Bool, true, false, pos, ◌-ℤ◌, neg_ℤ, sym, ap, ◌∙◌, ap₂, lt_of_le_of_lt, arith, lit<, w32, w64, SFits, to_z, of_z}
+use Rattle.std.proofs.Common.{Some, ℤ, ◌≡◌, ℕ, zero, suc, ◌+◌, ◌/◌, ◌^◌, ◌<◌, ◌≤◌, Bool, true, false, pos, ◌-ℤ◌, neg_ℤ, sym, ap, ◌∙◌, ap₂, lt_of_le_of_lt, arith, lit<, w32, w64, SFits, to_z, of_z}
 use lib.IntN.{+ℤ_idl}
 use lib.Pow.{shr_le}
 use lib.Count.{count_trailing_zeros}
 use lib.Ieee.{odd}
 use mir.ValLaws.{to_z-of_z, to_z_pos}
-use Rattle.float_signs.specs.Parts.{decomp_of}
-use Rattle.float_signs.specs.declared.Dyadic.TheVariants.{Parts}
+use Rattle.float_signs.specs.Parts.{dyadic, decomp_of}
 use Rattle.float_signs.proofs.Mantissa.{tz_le, parts_are, sub_small}
 use Rattle.float_signs.proofs.parts.Goals as goal
 use Rattle.float_signs.proofs.parts.Goals.{Start}
@@ -67,7 +66,7 @@ e_read c = rw (e_is c) (to_z-of_z w32 (pos (c.args.k + tz c) -ℤ pos 1074) (e_f
 
 pub returns-then-negative : goal.returns-then-negative
 returns-then-negative c = let n : to_z w64 (of_z w64 (pos 0 -ℤ to_z w64 (m (goal.at.returns-then-negative c).Start))) ≡ neg_ℤ (pos (m (goal.at.returns-then-negative c).Start)) = rw (m_is (goal.at.returns-then-negative c).Start, +ℤ_idl) (to_z-of_z w64 (neg_ℤ (pos (m (goal.at.returns-then-negative c).Start))) (neg_fits (m (goal.at.returns-then-negative c).Start) (m_lt (goal.at.returns-then-negative c).Start))) in
-    ap₂ Parts n (e_read (goal.at.returns-then-negative c).Start) ∙ parts_are true c.args.q c.args.k c.requires.0 c.requires.1 ∙ ap (λ (b : Bool). decomp_of (odd 53 b c.args.q c.args.k 1074)) (sym c.if-negative.true)
+    ap₂ (λ (m e : ℤ). Some (dyadic m e)) n (e_read (goal.at.returns-then-negative c).Start) ∙ parts_are true c.args.q c.args.k c.requires.0 c.requires.1 ∙ ap (λ (b : Bool). decomp_of (odd 53 b c.args.q c.args.k 1074)) (sym c.if-negative.true)
 
 pub returns-else-negative : goal.returns-else-negative
-returns-else-negative c = ap₂ Parts (m_is (goal.at.returns-else-negative c).Start) (e_read (goal.at.returns-else-negative c).Start) ∙ parts_are false c.args.q c.args.k c.requires.0 c.requires.1 ∙ ap (λ (b : Bool). decomp_of (odd 53 b c.args.q c.args.k 1074)) (sym c.if-negative.false)
+returns-else-negative c = ap₂ (λ (m e : ℤ). Some (dyadic m e)) (m_is (goal.at.returns-else-negative c).Start) (e_read (goal.at.returns-else-negative c).Start) ∙ parts_are false c.args.q c.args.k c.requires.0 c.requires.1 ∙ ap (λ (b : Bool). decomp_of (odd 53 b c.args.q c.args.k 1074)) (sym c.if-negative.false)

@@ -6,19 +6,19 @@ use mir.ValLaws.{to_z-of_z}
 use Rattle.float_signs.specs.Intake.{intake_of}
 use Rattle.float_signs.specs.declared.Intake.TheVariants.{Whole, Fraction}
 use Rattle.float_signs.proofs.Coordinate.{Bounded, not_finite, too_large_above, too_large_below, bounded, above_least, below_most, part_small, part_mag, in_float_lem, back_is}
+use Rattle.float_signs.proofs.Library.{finite_told}
 use Rattle.float_signs.proofs.take_in.Goals as goal
-use Rattle.float_signs.proofs.take_in.Goals.{After-row_known-1, After-truncating_f64_to_i64-t, Else-x-2, Then-is_finite}
+use Rattle.float_signs.proofs.take_in.Goals.{After-row_known-1, After-truncating_f64_to_i64-t, Else-x-2, Then-is_finite, then-x-via-then-x, then-x-via-else-x+then-x-2}
 
 is_fin : (c : Then-is_finite) → finite c.args.x ≡ true
-is_fin c = sym c.is_finite.ensures ∙ c.if-is_finite.true
+is_fin c = finite_told _ c.is_finite.ensures.value c.if-is_finite.true
 
 pub returns-then-x : goal.returns-then-x
-unfolding of_bits
-returns-then-x c = too_large_above _ (is_fin (goal.at.returns-then-x c).Then-is_finite) c.if-x.true
-
-pub returns-then-x-2 : goal.returns-then-x-2
 unfolding of_bits neg
-returns-then-x-2 c = too_large_below _ (is_fin (goal.at.returns-then-x-2 c).Then-is_finite) c.if-x-2.true
+returns-then-x c = let f = is_fin (goal.at.returns-then-x c).Then-is_finite in elim c.then-x.branch [
+  | then-x-via-then-x w ↦ too_large_above _ f w.if-x.true
+  | then-x-via-else-x+then-x-2 w ↦ too_large_below _ f w.if-x-2.true
+]
 
 within : (c : Else-x-2) → Bounded c.args.x
 unfolding of_bits neg
@@ -71,4 +71,4 @@ unfolding t
 returns-else-back-x c = compared (goal.at.returns-else-back-x c).After-row_known-1 false c.if-back-x.false
 
 pub returns-else-is_finite : goal.returns-else-is_finite
-returns-else-is_finite c = not_finite _ (sym c.is_finite.ensures ∙ c.if-is_finite.false)
+returns-else-is_finite c = not_finite _ (finite_told _ c.is_finite.ensures.value c.if-is_finite.false)

@@ -1,7 +1,6 @@
-use Rattle.houses.proofs.Houses.{earlier_told}
+use Rattle.houses.proofs.Houses.{earlier_is}
 use Rattle.houses.proofs.earlier.Goals as goal
 
 pub returns : goal.returns
 returns c = let x = c.args in
-    earlier_told x.work.now x.count x.s x.t c.least.ensures c.second.ensures c.third.ensures
-    c.least-2.ensures c.second-2.ensures c.third-2.ensures c.rises.ensures
+    rw (earlier_is x.work.now x.count x.s x.t) (rw (c.turned.ensures, c.turned-2.ensures) at c.rises.ensures)

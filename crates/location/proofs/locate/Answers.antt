@@ -1,11 +1,9 @@
+use Rattle.std.proofs.Common.{rules}
 use Rattle.tables.specs.Data.{point}
-use Rattle.location.proofs.Walks.{by_walk, by_scan}
+use Rattle.location.proofs.Walks.{located}
 use Rattle.location.proofs.locate.Goals as goal
-
-pub returns-then-found-eq0 : goal.returns-then-found-eq0
-returns-then-found-eq0 c = let x = c.args in
-    by_scan (point x.points.now) x.work.now x.count (point x.points.now x.p) x.newest c.walk-found.ensures c.if-found-eq0.true c.scan.ensures
 
 pub returns : goal.returns
 returns c = let x = c.args in
-    by_walk (point x.points.now) x.work.now x.count (point x.points.now x.p) x.newest c.walk-found.ensures c.if-found-eq0.false
+    let P = point x.points.now in
+    located P x.work.now x.count (P x.p) x.newest c.walk.result c.or_else.result c.walk.ensures c.or_else.ensures (λ k. search rules)

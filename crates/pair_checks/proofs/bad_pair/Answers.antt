@@ -1,15 +1,7 @@
-use Prim.Native.Nat.{◌-◌}
-use Rattle.pair_checks.proofs.Lowest.{start, more, found, ended}
+use Rattle.std.proofs.Common.{rules}
+use Rattle.tables.specs.Refusals.{bad_pair}
+use Rattle.pair_checks.proofs.Lowest.{lowest_below}
 use Rattle.pair_checks.proofs.bad_pair.Goals as goal
 
-pub returns-then-is_bad : goal.returns-then-is_bad
-returns-then-is_bad c = found c.loop-k.invariant c.loop-k-test.true c.is_bad.ensures c.if-is_bad.true
-
-pub loop-k-preserved : goal.loop-k-preserved
-loop-k-preserved c = more c.loop-k.invariant c.loop-k-test.true c.is_bad.ensures c.if-is_bad.false
-
 pub returns : goal.returns
-returns c = ended c.loop-k.invariant c.loop-k-test.false
-
-pub loop-k-init : goal.loop-k-init
-loop-k-init c = start _ _
+returns c = lowest_below _ _ (bad_pair c.args.n c.args.pairs.now) _ c.find.ensures.ran (λ x b q k. search rules)

@@ -1,37 +1,10 @@
-use Prim.Native.Nat.{◌+◌, ◌*◌, ◌-◌}
-use native.Mathlib.Omega.{arith}
+use Rattle.std.proofs.Common.{rules}
+use Rattle.tables.specs.Data.{point, end_a, end_b}
 use Rattle.tables.specs.Refusals.{crosses}
-use Rattle.pair_checks.proofs.Lowest.{start, more, found_any, ended_any}
+use Rattle.ranges.proofs.Tests.{any_below}
 use Rattle.pair_checks.proofs.is_crossing.Goals as goal
 
-pub overflow_cast-c : goal.overflow_cast-c
-overflow_cast-c c = omega (arith, c.type_inv.pairs (2 * c.args.k))
-
-pub overflow_cast-d : goal.overflow_cast-d
-overflow_cast-d c = omega (arith, c.type_inv.pairs (2 * c.args.k + 1))
-
-pub overflow_cast-a : goal.overflow_cast-a
-overflow_cast-a c = omega (arith, c.type_inv.pairs (2 * c.loop-j.j))
-
-pub overflow_cast-b : goal.overflow_cast-b
-overflow_cast-b c = omega (arith, c.type_inv.pairs (2 * c.loop-j.j + 1))
-
-pub crosses-requires : goal.crosses-requires
-crosses-requires c = let ends = c.requires.ends in
-    let a = ends (2 * c.loop-j.j) (omega arith) in
-    let b = ends (2 * c.loop-j.j + 1) (omega arith) in
-    let c1 = ends (2 * c.args.k) (omega arith) in
-    let d = ends (2 * c.args.k + 1) (omega arith) in
-    record { near = c.requires.near; a_bound = omega arith }
-
-pub returns-then-crosses : goal.returns-then-crosses
-returns-then-crosses c = found_any c.loop-j.invariant c.loop-j-test.true c.crosses.ensures c.if-crosses.true
-
-pub loop-j-preserved : goal.loop-j-preserved
-loop-j-preserved c = more c.loop-j.invariant c.loop-j-test.true c.crosses.ensures c.if-crosses.false
-
 pub returns : goal.returns
-returns c = ended_any c.loop-j.invariant c.loop-j-test.false
-
-pub loop-j-init : goal.loop-j-init
-loop-j-init c = start _ _
+returns c = let p = point c.args.points.now in
+    let qs = c.args.pairs.now in
+    any_below (λ j. crosses (p (end_a qs j)) (p (end_b qs j)) (p (end_a qs c.args.k)) (p (end_b qs c.args.k))) c.any.ensures.ran (λ x b q k. search rules)

@@ -7,7 +7,7 @@ use Rattle.segments.specs.Near.{Near}
 use Rattle.tables.specs.Answers.{lowest}
 use Rattle.tables.specs.Data.{point_count, pair_count}
 use Rattle.tables.specs.Refusals.{bad_pair}
-use Rattle.tables.specs.declared.Lowest.TheVariants.{Nowhere}
+use Rattle.std.specs.Prelude.{None}
 use Rattle.tables.proofs.Table.{row_at_stops, row_at_passes, near_list}
 use Rattle.rooms.proofs.Cleared.{rest_none}
 use Rattle.pair_checks.specs.Ends.{Ends}
@@ -15,12 +15,12 @@ use Rattle.pair_rows.proofs.Above.{ends_points}
 use Rattle.pair_rows.proofs.rows_8_to_10.Goals as goal
 use Rattle.pair_rows.proofs.rows_8_to_10.Goals.{Else-n-m, In_default, then-m-lt-FEW, else-m-lt-FEW}
 
-pub returns-in-At : goal.returns-in-At
-returns-in-At c = record { result_value = sym (row_at_stops 8 _ (sym c.bad_pair-bad.ensures ∙ c.in-At.is)); rest = rest_none _ _ }
+pub returns-in-Some : goal.returns-in-Some
+returns-in-Some c = record { result_value = sym (row_at_stops 8 _ (sym c.bad_pair.ensures ∙ c.in-Some.is)); rest = rest_none _ _ }
 
 -- row 8 is passed
-none_8 : (c : In_default) → lowest (pair_count c.args.pairs.now) (bad_pair (point_count c.args.points.now) c.args.pairs.now) ≡ Nowhere
-none_8 c = sym c.bad_pair-bad.ensures ∙ c.in_default.is
+none_8 : (c : In_default) → lowest (pair_count c.args.pairs.now) (bad_pair (point_count c.args.points.now) c.args.pairs.now) ≡ None
+none_8 c = sym c.bad_pair.ensures ∙ c.in_default.is
 
 ends : (c : In_default) → Ends c.args.points.now c.args.pairs.now
 ends c = ends_points c.args.points.now c.args.pairs.now c.requires.pairs_len.0 (none_8 c)

@@ -5,8 +5,7 @@ use lib.ListN.{length}
 use Rattle.tables.specs.Answers.{yes, row_at, lowest}
 use Rattle.tables.specs.Data.{point_count, pair_count}
 use Rattle.tables.specs.Refusals.{blocked}
-use Rattle.tables.specs.declared.Lowest.{Lowest}
-use Rattle.tables.specs.declared.Lowest.TheVariants.{Nowhere}
+use Rattle.std.specs.Prelude.{Option, None}
 use Rattle.tables.proofs.Table.{row_at_stops, row_at_passes}
 use Rattle.rooms.specs.Rest.{Rest}
 use Rattle.rooms.proofs.Cleared.{rest_then}
@@ -23,18 +22,18 @@ rest c = record { size = c.rank_points.ensures.size; same = c.rank_points.ensure
 long : (c : After-rank_points) → 64 * point_count c.args.points.now ≤ length (w1 c)
 long c = rw (rest c).size c.requires.points_in_bounds.0
 
-pub blocked_pair-blocked-requires : goal.blocked_pair-blocked-requires
-blocked_pair-blocked-requires c = record { figure = c.requires.figure; ends = c.requires.ends; ordered = (c.rank_points.ensures.ordered, long (goal.at.blocked_pair-blocked-requires c).After-rank_points) }
+pub blocked_pair-requires : goal.blocked_pair-requires
+blocked_pair-requires c = record { figure = c.requires.figure; ends = c.requires.ends; ordered = (c.rank_points.ensures.ordered, long (goal.at.blocked_pair-requires c).After-rank_points) }
 
-pub returns-in-At : goal.returns-in-At
-returns-in-At c = record { result_value = sym (row_at_stops 9 _ (sym c.blocked_pair-blocked.ensures ∙ c.in-At.is)); rest = rest (goal.at.returns-in-At c).After-rank_points }
+pub returns-in-Some : goal.returns-in-Some
+returns-in-Some c = record { result_value = sym (row_at_stops 9 _ (sym c.blocked_pair.ensures ∙ c.in-Some.is)); rest = rest (goal.at.returns-in-Some c).After-rank_points }
 
 -- row 9 is passed
-none_9 : (c : In_default) → lowest (pair_count c.args.pairs.now) (blocked c.args.points.now c.args.pairs.now) ≡ Nowhere
-none_9 c = sym c.blocked_pair-blocked.ensures ∙ c.in_default.is
+none_9 : (c : In_default) → lowest (pair_count c.args.pairs.now) (blocked c.args.points.now c.args.pairs.now) ≡ None
+none_9 c = sym c.blocked_pair.ensures ∙ c.in_default.is
 
 pub crossing_pair-requires : goal.crossing_pair-requires
 crossing_pair-requires c = record { figure = c.requires.figure; ends = c.requires.ends; ordered = (c.rank_points.ensures.ordered, long (goal.at.crossing_pair-requires c).After-rank_points, c.requires.points_in_bounds.1) }
 
 pub returns : goal.returns
-returns c = record { result_value = c.row_10.ensures ∙ sym (row_at_passes 9 _ (none_9 (goal.at.returns c).In_default) ∙ ap (λ (l : Lowest). row_at 10 l yes) (sym c.crossing_pair.ensures.value)); rest = rest_then (rest (goal.at.returns c).After-rank_points) c.crossing_pair.ensures.rest }
+returns c = record { result_value = c.row_10.ensures ∙ sym (row_at_passes 9 _ (none_9 (goal.at.returns c).In_default) ∙ ap (λ (l : Option ℕ). row_at 10 l yes) (sym c.crossing_pair.ensures.value)); rest = rest_then (rest (goal.at.returns c).After-rank_points) c.crossing_pair.ensures.rest }

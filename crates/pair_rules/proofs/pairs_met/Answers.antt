@@ -1,7 +1,7 @@
 use mathlib.Core.Path.{◌≡◌, refl, sym, ap, ◌∙◌, subst}
 use mathlib.Core.Bool.{Bool, true, false, true≢false}
 use mathlib.Core.List.{List}
-use Prim.Native.Nat.{ℕ, ◌+◌, ◌*◌, ◌%◌, ◌-◌}
+use Prim.Native.Nat.{ℕ, ◌+◌, ◌%◌}
 use native.Mathlib.Omega.{arith}
 use lib.ListN.{length}
 use Rattle.algebra.specs.Tests.{all_to, any_to}
@@ -10,7 +10,7 @@ use Rattle.tables.specs.Data.{pair_count}
 use Rattle.tables.specs.Rules.{rule6}
 use Rattle.list_rules.specs.Listed.{Painted}
 use Rattle.list_rules.proofs.Once.{whole_length}
-use Rattle.pair_rules.proofs.Paint.{joins, pair_to, paint_first, paint_more, paint_marked, painted_listed, painted_room}
+use Rattle.pair_rules.proofs.Paint.{joins, pair_to, paint_first, paint_more, paint_marked}
 use Rattle.pair_rules.proofs.pairs_met.Goals as goal
 use Rattle.pair_rules.proofs.pairs_met.Goals.{After-mark_both}
 use Rattle.pair_rules.proofs.pairs_met.Invariants.{met}
@@ -21,18 +21,7 @@ met_is qs xs k r b w e h = ap (λ (n : ℕ). any_to n (λ h. joins qs xs h k)) (
 
 pub loop-k-init : goal.loop-k-init
 unfolding all_to
-loop-k-init c = (omega arith, refl, paint_first c.args.n c.args.pairs.now c.args.list.now c.args.work.now)
-
-pub mark_both-requires : goal.mark_both-requires
-mark_both-requires c = let l = c.loop-k in
-    let p = l.invariant.2 in
-    let t = c.loop-k-test.true in (
-      painted_listed c.args.n c.args.list.now _ c.args.work.now l.work c.requires.0 c.requires.1 p,
-      painted_room c.args.n c.args.list.now _ c.args.work.now l.work c.requires.1 p,
-      c.requires.2,
-      c.requires.3 (2 * l.k) (omega arith),
-      c.requires.3 (2 * l.k + 1) (omega arith),
-    )
+loop-k-init c = (refl, paint_first c.args.n c.args.pairs.now c.args.list.now c.args.work.now)
 
 -- ---- after the call
 abbrev k : (c : After-mark_both) → ℕ
@@ -40,7 +29,7 @@ k c = c.loop-k.k
 
 painted : (c : After-mark_both) → Painted c.args.n c.args.list.now (pair_to c.args.pairs.now c.args.list.now ((k c) + 1)) c.args.work.now c.mark_both.new.work
 painted c = paint_more c.args.n c.args.pairs.now c.args.list.now (k c) c.args.work.now
-    c.loop-k.work c.mark_both.new.work c.loop-k.invariant.2 c.mark_both.ensures.marks
+    c.loop-k.work c.mark_both.new.work c.loop-k.invariant.1 c.mark_both.ensures.marks
 
 answer : (c : After-mark_both) → (b : Bool) → c.mark_both.result ≡ b → met c.args.pairs.now c.args.list.now (k c) ≡ b
 answer c b h = met_is c.args.pairs.now c.args.list.now (k c) c.mark_both.result b c.requires.0.whole c.mark_both.ensures.found h
@@ -60,16 +49,16 @@ returns-then-not-mark_both c = let p = painted (goal.at.returns-then-not-mark_bo
 pub loop-k-preserved : goal.loop-k-preserved
 loop-k-preserved c = let l = c.loop-k in
     let t = c.loop-k-test.true in
-    (omega arith, all_more (met c.args.pairs.now c.args.list.now) l.k l.invariant.1 (answer (goal.at.loop-k-preserved c).After-mark_both true (c.if-not-mark_both.false)), painted (goal.at.loop-k-preserved c).After-mark_both)
+    (all_more (met c.args.pairs.now c.args.list.now) l.k l.invariant.0 (answer (goal.at.loop-k-preserved c).After-mark_both true (c.if-not-mark_both.false)), painted (goal.at.loop-k-preserved c).After-mark_both)
 
 pub returns : goal.returns
 unfolding rule6
 returns c = let l = c.loop-k in
-    let i = l.invariant.0 in
+    let i = c.loop-k.auto.k-end in
     let e : l.k ≡ pair_count c.args.pairs.now = (let t = c.loop-k-test.false in omega arith) in
-    let p = subst (λ (j : ℕ). Painted c.args.n c.args.list.now (pair_to c.args.pairs.now c.args.list.now j) c.args.work.now l.work) e l.invariant.2 in
+    let p = subst (λ (j : ℕ). Painted c.args.n c.args.list.now (pair_to c.args.pairs.now c.args.list.now j) c.args.work.now l.work) e l.invariant.1 in
     record {
-      answer = sym l.invariant.1 ∙ ap (λ (j : ℕ). all_to j (met c.args.pairs.now c.args.list.now)) e;
+      answer = sym l.invariant.0 ∙ ap (λ (j : ℕ). all_to j (met c.args.pairs.now c.args.list.now)) e;
       marked = λ q. paint_marked c.args.n c.args.pairs.now c.args.list.now c.args.work.now l.work c.requires.4 p;
       size = p.size;
       below = p.below;

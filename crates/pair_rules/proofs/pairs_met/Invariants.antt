@@ -1,7 +1,7 @@
 use mathlib.Core.Path.{◌≡◌}
 use mathlib.Core.Bool.{Bool, true}
 use mathlib.Core.List.{List}
-use Prim.Native.Nat.{ℕ, ◌*◌, ◌-◌, ◌≤◌}
+use Prim.Native.Nat.{ℕ, ◌*◌}
 use Rattle.algebra.specs.Tests.{all_to, any_to}
 use Rattle.tables.specs.Rules.{triples}
 use Rattle.list_rules.specs.Listed.{Painted}
@@ -12,7 +12,4 @@ abbrev pub met : List ℕ → List ℕ → ℕ → Bool
 met qs xs k = any_to (3 * triples xs) (λ h. joins qs xs h k)
 
 abbrev pub invariant-loop-k : goal.invariant-loop-k
-invariant-loop-k l = (l.k ≤ l.m) × (all_to l.k (met l.pairs l.list) ≡ true) × Painted l.n l.list (pair_to l.pairs l.list l.k) l.initial.work l.work
-
-abbrev pub decreases-loop-k : goal.decreases-loop-k
-decreases-loop-k l = l.m - l.k
+invariant-loop-k l = (all_to l.k (met l.pairs l.list) ≡ true) × Painted l.n l.list (pair_to l.pairs l.list l.k) l.initial.work l.work

@@ -1,11 +1,7 @@
 use mathlib.Core.Path.{◌≡◌}
-use Prim.Native.Nat.{◌-◌, ◌≤◌}
 use Rattle.algebra.specs.Sum.{sum_to}
 use Rattle.tables.specs.Rules.{triple_area}
 use Rattle.place_rules.proofs.areas_fill.Given as goal
 
 abbrev pub invariant-loop-t : goal.invariant-loop-t
-invariant-loop-t l = (l.t ≤ l.count) × (l.sum ≡ sum_to l.t (triple_area l.points l.list))
-
-abbrev pub decreases-loop-t : goal.decreases-loop-t
-decreases-loop-t l = l.count - l.t
+invariant-loop-t l = l.sum ≡ sum_to l.t (triple_area l.points l.list)

@@ -1,28 +1,24 @@
-use Prim.Native.Nat.{◌-◌, ◌*◌, ◌<◌}
+use Prim.Native.Nat.{ℕ, ◌-◌, ◌*◌, ◌≤◌, ◌<◌}
 use native.Mathlib.Omega.{arith}
+use Rattle.std.specs.Prelude.{Option, Some, None, SomeIff, IfSome}
 use Rattle.nets.proofs.Slot.{nxt_in}
 use Rattle.looks.proofs.Laws.{adj_low, before_low}
 use Rattle.searches.proofs.onward.Goals as goal
-use Rattle.searches.proofs.onward.Goals.{After-next, Else-g-eq0}
+use Rattle.searches.proofs.onward.Goals.{In_ok-g}
+
+-- a partner and 1 is at most n
+less : (m n : ℕ) (o : Option ℕ) → SomeIff o (1 ≤ m) (m - 1) → m ≤ n → IfSome o (λ g. g < n)
+less m n (Some g) e l = omega (arith, e.0, e.1)
+less m n None e l = tt
 
 pub returns-then-left : goal.returns-then-left
-returns-then-left c = before_low c.args.work.now c.args.count c.args.h c.requires.in_range c.requires.h_bound c.at.ensures
+returns-then-left c = let x = c.args in less _ (3 * x.count) c.checked_sub.result c.checked_sub.ensures (before_low x.work.now x.count x.h c.requires.in_range c.requires.h_bound)
 
--- the edge has a partner
-low : (c : Else-g-eq0) → c.at-g.result - 1 < 3 * c.args.count
-low c =
-    let l = adj_low c.args.work.now c.args.count c.args.h c.requires.in_range c.requires.h_bound c.at-g.ensures in
-    let k = c.if-g-eq0.false in
-    omega arith
+low : (c : In_ok-g) → c.in_ok-g.g < 3 * c.args.count
+low c = let x = c.args in less _ (3 * x.count) (Some c.in_ok-g.g) c.in_ok-g.ensures (adj_low x.work.now x.count x.h c.requires.in_range c.requires.h_bound)
 
 pub next-requires : goal.next-requires
-next-requires c = let l = low (goal.at.next-requires c).Else-g-eq0 in let k = c.requires.in_range.small in omega arith
-
-next_low : (c : After-next) → c.next.result < 3 * c.args.count
-next_low c = rw c.next.ensures (nxt_in (c.at-g.result - 1) c.args.count (low (record { before = c.before.before; type_inv = record { work = c.shared_slice_known-1.given } })))
-
-pub overflow_add-result : goal.overflow_add-result
-overflow_add-result c = let l = next_low (goal.at.overflow_add-result c).After-next in let k = c.requires.in_range.small in omega arith
+next-requires c = let l = low (goal.at.next-requires c).In_ok-g in let k = c.requires.in_range.small in omega arith
 
 pub returns : goal.returns
-returns c = let l = next_low (goal.at.returns c).After-next in omega arith
+returns c = rw c.next.ensures (nxt_in c.in_ok-g.g c.args.count (low (goal.at.returns c).In_ok-g))

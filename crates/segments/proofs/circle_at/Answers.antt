@@ -1,23 +1,19 @@
-use mathlib.Core.Path.{◌≡◌, refl, ◌∙◌}
-use mathlib.Core.List.{List, [], ◌∷◌}
-use lib.IntN.{ℤ}
-use Rattle.segments.proofs.Points.{row, also}
-use Rattle.segments.proofs.Answers.{circle_read}
+use Rattle.std.proofs.Common.{◌≡◌, sym, ◌∙◌, Some}
+use Rattle.plane.specs.Determinants.{incircle}
+use Rattle.signs.specs.Signs.{sign_z}
+use Rattle.tables.specs.Data.{point}
+use Rattle.segments.proofs.Points.{circle_known}
 use Rattle.segments.proofs.circle_at.Goals as goal
-use Rattle.segments.proofs.circle_at.Goals.{After-y_at-dy}
+use Rattle.segments.proofs.circle_at.Goals.{After-circle_sign}
 
--- The coordinates that were read are those of the points.
-abbrev ρ : After-y_at-dy → List ℤ
-ρ c = c.x_at-ax.result ∷ c.y_at-ay.result ∷ c.x_at-bx.result ∷ c.y_at-by.result ∷ c.x_at-cx.result ∷ c.y_at-cy.result ∷ c.x_at-dx.result ∷ c.y_at-dy.result ∷ []
+-- Points within the limit have a circle sign.
+known : (c : After-circle_sign) → let ps = c.args.points.now in
+    c.circle_sign.result ≡ Some (sign_z (incircle (point ps c.args.a) (point ps c.args.b) (point ps c.args.c) (point ps c.args.d)))
+known c = rw (c.circle_sign.ensures, c.point_at-a.ensures, c.point_at-b.ensures, c.point_at-c.ensures, c.point_at-d.ensures)
+    (circle_known c.args.points.now c.requires.near c.args.a c.args.b c.args.c c.args.d)
 
-read : (c : After-y_at-dy) → ρ c ≡ row c.args.points.now (c.args.a ∷ c.args.b ∷ c.args.c ∷ c.args.d ∷ [])
-read c =
-    let ps = c.args.points.now in
-    also ps c.args.a (c.args.b ∷ c.args.c ∷ c.args.d ∷ []) c.x_at-ax.ensures
-    c.y_at-ay.ensures
-    (also ps c.args.b (c.args.c ∷ c.args.d ∷ []) c.x_at-bx.ensures c.y_at-by.ensures
-    (also ps c.args.c (c.args.d ∷ []) c.x_at-cx.ensures c.y_at-cy.ensures
-    (also ps c.args.d [] c.x_at-dx.ensures c.y_at-dy.ensures refl)))
+pub unwrap-requires : goal.unwrap-requires
+unwrap-requires c = rw (known (goal.at.unwrap-requires c).After-circle_sign)
 
 pub returns : goal.returns
-returns c = c.known.ensures ∙ circle_read c.args.points.now c.requires.near c.args.a c.args.b c.args.c c.args.d (read (goal.at.returns c).After-y_at-dy) c.circle_sign.ensures
+returns c = let e = sym c.unwrap.ensures ∙ known (goal.at.returns c).After-circle_sign in cc e

@@ -69,7 +69,7 @@ abbrev whole : Code
 whole = add (add (mul al bc) (mul bl ca)) (mul cl ab)
 
 abbrev ρ : (c : Start) → List ℤ
-ρ c = c.args.ax ∷ c.args.ay ∷ c.args.bx ∷ c.args.by ∷ c.args.cx ∷ c.args.cy ∷ c.args.dx ∷ c.args.dy ∷ []
+ρ c = c.args.a.x ∷ c.args.a.y ∷ c.args.b.x ∷ c.args.b.y ∷ c.args.c.x ∷ c.args.c.y ∷ c.args.d.x ∷ c.args.d.y ∷ []
 
 ok : (c : Start) → (e : Code) → T (good w64 e (all limit (ρ c))) → SFits w64 (raw e (ρ c))
 ok c e t = fits_small w64 limit (ρ c) c.requires e t
@@ -77,60 +77,6 @@ ok c e t = fits_small w64 limit (ρ c) c.requires e t
 pub returns : goal.returns
 unfolding incircle
 returns c = is_small w64 limit (ρ (goal.at.returns c).Start) c.requires whole (on4 incircle_e) tt tt
-
-pub overflow_cast-adx : goal.overflow_cast-adx
-overflow_cast-adx c = ok (goal.at.overflow_cast-adx c).Start (cast 0) tt
-
-pub overflow_cast-adx-2 : goal.overflow_cast-adx-2
-overflow_cast-adx-2 c = ok (goal.at.overflow_cast-adx-2 c).Start (cast 6) tt
-
-pub overflow_sub-adx : goal.overflow_sub-adx
-overflow_sub-adx c = ok (goal.at.overflow_sub-adx c).Start adx tt
-
-pub overflow_cast-ady : goal.overflow_cast-ady
-overflow_cast-ady c = ok (goal.at.overflow_cast-ady c).Start (cast 1) tt
-
-pub overflow_cast-ady-2 : goal.overflow_cast-ady-2
-overflow_cast-ady-2 c = ok (goal.at.overflow_cast-ady-2 c).Start (cast 7) tt
-
-pub overflow_sub-ady : goal.overflow_sub-ady
-overflow_sub-ady c = ok (goal.at.overflow_sub-ady c).Start ady tt
-
-pub overflow_cast-bdx : goal.overflow_cast-bdx
-overflow_cast-bdx c = ok (goal.at.overflow_cast-bdx c).Start (cast 2) tt
-
-pub overflow_cast-bdx-2 : goal.overflow_cast-bdx-2
-overflow_cast-bdx-2 c = ok (goal.at.overflow_cast-bdx-2 c).Start (cast 6) tt
-
-pub overflow_sub-bdx : goal.overflow_sub-bdx
-overflow_sub-bdx c = ok (goal.at.overflow_sub-bdx c).Start bdx tt
-
-pub overflow_cast-bdy : goal.overflow_cast-bdy
-overflow_cast-bdy c = ok (goal.at.overflow_cast-bdy c).Start (cast 3) tt
-
-pub overflow_cast-bdy-2 : goal.overflow_cast-bdy-2
-overflow_cast-bdy-2 c = ok (goal.at.overflow_cast-bdy-2 c).Start (cast 7) tt
-
-pub overflow_sub-bdy : goal.overflow_sub-bdy
-overflow_sub-bdy c = ok (goal.at.overflow_sub-bdy c).Start bdy tt
-
-pub overflow_cast-cdx : goal.overflow_cast-cdx
-overflow_cast-cdx c = ok (goal.at.overflow_cast-cdx c).Start (cast 4) tt
-
-pub overflow_cast-cdx-2 : goal.overflow_cast-cdx-2
-overflow_cast-cdx-2 c = ok (goal.at.overflow_cast-cdx-2 c).Start (cast 6) tt
-
-pub overflow_sub-cdx : goal.overflow_sub-cdx
-overflow_sub-cdx c = ok (goal.at.overflow_sub-cdx c).Start cdx tt
-
-pub overflow_cast-cdy : goal.overflow_cast-cdy
-overflow_cast-cdy c = ok (goal.at.overflow_cast-cdy c).Start (cast 5) tt
-
-pub overflow_cast-cdy-2 : goal.overflow_cast-cdy-2
-overflow_cast-cdy-2 c = ok (goal.at.overflow_cast-cdy-2 c).Start (cast 7) tt
-
-pub overflow_sub-cdy : goal.overflow_sub-cdy
-overflow_sub-cdy c = ok (goal.at.overflow_sub-cdy c).Start cdy tt
 
 pub overflow_mul-alift : goal.overflow_mul-alift
 overflow_mul-alift c = ok (goal.at.overflow_mul-alift c).Start (sq adx) tt

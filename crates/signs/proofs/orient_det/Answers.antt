@@ -27,7 +27,7 @@ abbrev r : Code
 r = times w64 (dif 1 5) (dif 2 4)
 
 abbrev ρ : (c : Start) → List ℤ
-ρ c = c.args.ax ∷ c.args.ay ∷ c.args.bx ∷ c.args.by ∷ c.args.cx ∷ c.args.cy ∷ []
+ρ c = c.args.a.x ∷ c.args.a.y ∷ c.args.b.x ∷ c.args.b.y ∷ c.args.c.x ∷ c.args.c.y ∷ []
 
 ok : (c : Start) → (e : Code) → T (good w64 e (all limit (ρ c))) → SFits w64 (raw e (ρ c))
 ok c e t = fits_small w64 limit (ρ c) c.requires e t
@@ -35,42 +35,6 @@ ok c e t = fits_small w64 limit (ρ c) c.requires e t
 pub returns : goal.returns
 unfolding orient
 returns c = is_small w64 limit (ρ (goal.at.returns c).Start) c.requires (minus w64 l r) (on3 orient_e) tt tt
-
-pub overflow_cast-acx : goal.overflow_cast-acx
-overflow_cast-acx c = ok (goal.at.overflow_cast-acx c).Start (cast 0) tt
-
-pub overflow_cast-acx-2 : goal.overflow_cast-acx-2
-overflow_cast-acx-2 c = ok (goal.at.overflow_cast-acx-2 c).Start (cast 4) tt
-
-pub overflow_sub-acx : goal.overflow_sub-acx
-overflow_sub-acx c = ok (goal.at.overflow_sub-acx c).Start (dif 0 4) tt
-
-pub overflow_cast-acy : goal.overflow_cast-acy
-overflow_cast-acy c = ok (goal.at.overflow_cast-acy c).Start (cast 1) tt
-
-pub overflow_cast-acy-2 : goal.overflow_cast-acy-2
-overflow_cast-acy-2 c = ok (goal.at.overflow_cast-acy-2 c).Start (cast 5) tt
-
-pub overflow_sub-acy : goal.overflow_sub-acy
-overflow_sub-acy c = ok (goal.at.overflow_sub-acy c).Start (dif 1 5) tt
-
-pub overflow_cast-bcx : goal.overflow_cast-bcx
-overflow_cast-bcx c = ok (goal.at.overflow_cast-bcx c).Start (cast 2) tt
-
-pub overflow_cast-bcx-2 : goal.overflow_cast-bcx-2
-overflow_cast-bcx-2 c = ok (goal.at.overflow_cast-bcx-2 c).Start (cast 4) tt
-
-pub overflow_sub-bcx : goal.overflow_sub-bcx
-overflow_sub-bcx c = ok (goal.at.overflow_sub-bcx c).Start (dif 2 4) tt
-
-pub overflow_cast-bcy : goal.overflow_cast-bcy
-overflow_cast-bcy c = ok (goal.at.overflow_cast-bcy c).Start (cast 3) tt
-
-pub overflow_cast-bcy-2 : goal.overflow_cast-bcy-2
-overflow_cast-bcy-2 c = ok (goal.at.overflow_cast-bcy-2 c).Start (cast 5) tt
-
-pub overflow_sub-bcy : goal.overflow_sub-bcy
-overflow_sub-bcy c = ok (goal.at.overflow_sub-bcy c).Start (dif 3 5) tt
 
 pub overflow_mul-result : goal.overflow_mul-result
 overflow_mul-result c = ok (goal.at.overflow_mul-result c).Start l tt

@@ -24,17 +24,5 @@ offset_bounds-work-m c = let l = few (goal.at.offset_bounds-work-m c).Start in o
 pub bounds-work-m : goal.bounds-work-m
 bounds-work-m c = let l = few (goal.at.bounds-work-m c).Start in omega arith
 
-pub overflow_cast-s : goal.overflow_cast-s
-overflow_cast-s c = let l = low (goal.at.overflow_cast-s c).Start in omega arith
-
-pub overflow_mul-work : goal.overflow_mul-work
-overflow_mul-work c = let l = low (goal.at.overflow_mul-work c).Start in omega arith
-
-pub overflow_add-work : goal.overflow_add-work
-overflow_add-work c = let l = low (goal.at.overflow_add-work c).Start in omega arith
-
-pub offset_bounds-work-s : goal.offset_bounds-work-s
-offset_bounds-work-s c = let l = low (goal.at.offset_bounds-work-s c).Start in omega arith
-
 pub bounds-work-s : goal.bounds-work-s
 bounds-work-s c = let l = low (goal.at.bounds-work-s c).Start in omega arith

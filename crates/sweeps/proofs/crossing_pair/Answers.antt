@@ -11,6 +11,6 @@ pub returns-then-least-m : goal.returns-then-least-m
 returns-then-least-m c = let r = c.sweep-least.ensures in
     record { value = at_least c.args.points.now c.args.pairs.now c.requires.figure c.requires.ends _ _ c.order_pairs.ensures.row _ r.0 r.1 c.if-least-m.true; rest = c.order_pairs.ensures.rest }
 
-pub returns : goal.returns
-returns c = let r = c.sweep-least.ensures in
+pub returns-else-least-m : goal.returns-else-least-m
+returns-else-least-m c = let r = c.sweep-least.ensures in
     record { value = at_none c.args.points.now c.args.pairs.now c.requires.figure c.requires.ends _ _ c.order_pairs.ensures.row _ r.0 r.1 c.if-least-m.false; rest = c.order_pairs.ensures.rest }

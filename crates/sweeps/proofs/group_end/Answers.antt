@@ -1,21 +1,12 @@
-use Prim.Native.Nat.{◌-◌}
-use native.Mathlib.Omega.{arith}
-use Rattle.sweeps.proofs.Least.{together_one, together_more}
+use Rattle.std.proofs.Common.{rules}
+use Rattle.std.specs.Bool.{⊤}
+use Rattle.std.proofs.lemmas.Iterator.{first_from_Range}
+use Rattle.pair_orders.specs.Rows.{from}
+use Rattle.sweeps.proofs.Least.{together_until}
 use Rattle.sweeps.proofs.group_end.Goals as goal
-
-pub returns-then-p-known : goal.returns-then-p-known
-returns-then-p-known c = (c.if-p-known.true, c.requires.2, c.requires.3)
-
-pub loop-q-init : goal.loop-q-init
-loop-q-init c = let s = c.args in (omega arith, omega arith, together_one s.work.now s.at s.p)
-
-pub returns-then-work-at : goal.returns-then-work-at
-returns-then-work-at c = c.loop-q.invariant
-
-pub loop-q-preserved : goal.loop-q-preserved
-loop-q-preserved c = let s = c.args in
-    let i = c.loop-q.invariant in
-    (omega arith, omega arith, together_more s.work.now s.at s.p c.loop-q.q i.2 c.if-work-at.false)
+use mathlib.Core.Path.{◌≡◌}
 
 pub returns : goal.returns
-returns c = c.loop-q.invariant
+returns c = let w = c.args.work.now in
+    together_until w c.args.at c.args.m c.args.p c.find.result c.requires.1 c.unwrap_or.ensures
+    (first_from_Range _ _ _ _ (λ q. ⊤) (λ q. from w c.args.at q ≡ from w c.args.at c.args.p) c.find.ensures.ran (λ x q k. tt) (λ x q k. search rules))

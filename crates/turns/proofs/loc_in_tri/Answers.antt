@@ -1,20 +1,8 @@
-use Prim.Native.Nat.{◌+◌, ◌*◌}
-use native.Mathlib.Omega.{arith}
 use Rattle.tables.specs.Data.{point}
 use Rattle.turns.proofs.Corners.{Low, lows}
 use Rattle.turns.proofs.Moves.{moved}
 use Rattle.turns.proofs.loc_in_tri.Goals as goal
 use Rattle.turns.proofs.loc_in_tri.Goals.{Start}
-
--- a corner, as it was read, is a number of 32 bits
-pub overflow_cast-v0 : goal.overflow_cast-v0
-overflow_cast-v0 c = omega (arith, c.type_inv.work (16 * c.args.t))
-
-pub overflow_cast-v1 : goal.overflow_cast-v1
-overflow_cast-v1 c = omega (arith, c.type_inv.work (16 * c.args.t + 1))
-
-pub overflow_cast-v2 : goal.overflow_cast-v2
-overflow_cast-v2 c = omega (arith, c.type_inv.work (16 * c.args.t + 2))
 
 -- each corner is a point number
 low : (s : Start) → Low s.args.points.now s.args.work.now s.args.t

@@ -10,14 +10,14 @@ returns-then-tries c = let x = c.args in
 
 pub returns-then-tries-2 : goal.returns-then-tries-2
 returns-then-tries-2 c = let x = c.args in
-    edge_1 (point x.points.now) (rank x.points.now) (net_of x.work.now x.count) x.t c.tries.ensures c.if-tries.false c.tries-2.ensures c.if-tries-2.true
+    edge_1 (point x.points.now) (rank x.points.now) (net_of x.work.now x.count) x.t c.tries.ensures c.if-tries.false c.tries-else-tries.ensures c.if-tries-2.true
 
 pub returns-then-tries-3 : goal.returns-then-tries-3
 returns-then-tries-3 c = let x = c.args in
-    edge_2 (point x.points.now) (rank x.points.now) (net_of x.work.now x.count) x.t c.tries.ensures c.if-tries.false c.tries-2.ensures c.if-tries-2.false
-    c.tries-3.ensures c.if-tries-3.true
+    edge_2 (point x.points.now) (rank x.points.now) (net_of x.work.now x.count) x.t c.tries.ensures c.if-tries.false c.tries-else-tries.ensures c.if-tries-2.false
+    c.tries-else-tries-2.ensures c.if-tries-3.true
 
-pub returns : goal.returns
-returns c = let x = c.args in
-    edge_none (point x.points.now) (rank x.points.now) (net_of x.work.now x.count) x.t c.tries.ensures c.if-tries.false c.tries-2.ensures c.if-tries-2.false
-    c.tries-3.ensures c.if-tries-3.false
+pub returns-else-tries-3 : goal.returns-else-tries-3
+returns-else-tries-3 c = let x = c.args in
+    edge_none (point x.points.now) (rank x.points.now) (net_of x.work.now x.count) x.t c.tries.ensures c.if-tries.false c.tries-else-tries.ensures c.if-tries-2.false
+    c.tries-else-tries-2.ensures c.if-tries-3.false

@@ -1,21 +1,20 @@
-use mathlib.Core.Path.{◌≡◌, subst}
-use mathlib.Core.Bool.{true, false}
+use mathlib.Core.Path.{◌≡◌, sym, ap, ◌∙◌}
 use lib.IntN.{ℤ, pos}
-use lib.Signed.{lt_z}
-use mir.Syntax.{w64}
-use mir.ValLaws.{to_z-of_z}
-use Rattle.signs.proofs.Signed.{sign_z_above, sign_z_below, sign_z_neither}
+use mir.Facts.{to_z-of_z}
+use Rattle.std.specs.Ordering.{int_cmp}
+use Rattle.signs.specs.Signs.{sign_z}
+use Rattle.signs.proofs.Signed.{of_ordering, sign_cmp}
 use Rattle.signs.proofs.Sign.of_i64.Goals as goal
+use Rattle.signs.proofs.Sign.of_i64.Goals.{After-cmp}
 
-pub returns-then-n-gt0 : goal.returns-then-n-gt0
-returns-then-n-gt0 c = let n = c.args.n in
-    sign_z_above n (subst (λ (z : ℤ). lt_z (pos 0) z ≡ true) (to_z-of_z w64 n c.ranges.n) c.if-n-gt0.true)
+told : (c : After-cmp) → of_ordering c.cmp.result ≡ sign_z c.args.n
+told c = ap of_ordering (c.cmp.ensures ∙ ap (λ (z : ℤ). int_cmp z (pos 0)) (to_z-of_z c.ranges.n)) ∙ sign_cmp c.args.n
 
-pub returns-then-n-lt0 : goal.returns-then-n-lt0
-returns-then-n-lt0 c = let n = c.args.n in
-    sign_z_below n (subst (λ (z : ℤ). lt_z z (pos 0) ≡ true) (to_z-of_z w64 n c.ranges.n) c.if-n-lt0.true)
+pub returns-in-Less : goal.returns-in-Less
+returns-in-Less c = ap of_ordering (sym c.in-Less.is) ∙ told (goal.at.returns-in-Less c).After-cmp
 
-pub returns-else-n-lt0 : goal.returns-else-n-lt0
-returns-else-n-lt0 c = let n = c.args.n in
-    let e = to_z-of_z w64 n c.ranges.n in
-    sign_z_neither n (subst (λ (z : ℤ). lt_z (pos 0) z ≡ false) e c.if-n-gt0.false) (subst (λ (z : ℤ). lt_z z (pos 0) ≡ false) e c.if-n-lt0.false)
+pub returns-in-Equal : goal.returns-in-Equal
+returns-in-Equal c = ap of_ordering (sym c.in-Equal.is) ∙ told (goal.at.returns-in-Equal c).After-cmp
+
+pub returns-in-Greater : goal.returns-in-Greater
+returns-in-Greater c = ap of_ordering (sym c.in-Greater.is) ∙ told (goal.at.returns-in-Greater c).After-cmp

@@ -1,5 +1,0 @@
-use native.Mathlib.Omega.{arith}
-use Rattle.wants.proofs.at.Goals as goal
-
-pub overflow_cast-result : goal.overflow_cast-result
-overflow_cast-result c = omega (arith, c.type_inv.work c.args.i)
