@@ -25,11 +25,12 @@ pub fn far_point(points: &[i32]) -> Option<usize>
 
 // ---- row 7
 
+// The y are read only where the x are equal, which is seldom: row 7 asks this of every two points.
 fn at_one_place(points: &[i32], i: usize, j: usize) -> bool
     requires { (i < point_count points.now) × (j < point_count points.now) }
     ensures { result ≡ same (point points.now i) (point points.now j) }
 {
-    segments::point_at(points, i) == segments::point_at(points, j)
+    points[2 * i] == points[2 * j] && points[2 * i + 1] == points[2 * j + 1]
 }
 
 fn seen_before(points: &[i32], i: usize) -> bool
@@ -40,6 +41,8 @@ fn seen_before(points: &[i32], i: usize) -> bool
 }
 
 // The lowest point at the place of one before it.
+// It stays a function of its own when it is compiled: merged into rows 8 to 10, its loop would share their registers.
+#[inline(never)]
 pub fn equal_point(points: &[i32]) -> Option<usize>
     ensures { result ≡ lowest (point_count points.now) (again points.now) }
 {

@@ -48,6 +48,8 @@ fn is_blocked(points: &[i32], pairs: &[u32], work: &[u32], k: usize) -> bool
 }
 
 // The lowest pair with a point strictly inside its segment.
+// It stays a function of its own when it is compiled, so that its loop has all registers.
+#[inline(never)]
 pub fn blocked_pair(points: &[i32], pairs: &[u32], work: &[u32]) -> Option<usize>
     requires figure { Figure points.now }
     requires ends { Ends points.now pairs.now }

@@ -97,6 +97,8 @@ fn scan(
 
 // The least number of a later pair of two that cross, or the number of the pairs. The pairs that begin together are passed over once for all
 // of them.
+// It stays a function of its own when it is compiled, so that its loop has all registers.
+#[inline(never)]
 fn sweep(points: &[i32], pairs: &[u32], work: &[u32], at: usize) -> usize
     requires figure { Figure points.now }
     requires ends { Ends points.now pairs.now }
