@@ -101,18 +101,21 @@ module _ (P : ℕ → Pt ℤ) (w : List ℕ) (T a b h : ℕ) where
     back : dst m (prv h) ≡ a
     back = ap m.org (nxt_three h) ∙ starts
 
-    pub to_b : u ≡ b → Names m (Between m a b) h
-    unfolding net_of
-    to_b e = (l, inl (starts, sym (next_org w T h) ∙ e))
+    low : h / 3 < T
+    low = omega arith
 
-    pub from_b : v ≡ b → Names m (Between m a b) (3 * (h / 3) + (h % 3 + 2) % 3)
+    pub to_b : u ≡ b → Names m (Between m a b) (h / 3) (h % 3)
     unfolding net_of
-    from_b e = (omega arith, subst (Between m a b) (sym (before_is h)) (inr (sym (before_org w T h) ∙ e, back)))
+    to_b e = (low, omega arith, subst (Between m a b) (sym (whole h)) (inl (starts, sym (next_org w T h) ∙ e)))
+
+    pub from_b : v ≡ b → Names m (Between m a b) (h / 3) ((h % 3 + 2) % 3)
+    unfolding net_of
+    from_b e = (low, omega arith, subst (Between m a b) (sym (before_is h)) (inr (sym (before_org w T h) ∙ e, back)))
 
     pub enters : posb (neg_ℤ (orient (P a) (P b) (P u))) ≡ true → posb (orient (P a) (P b) (P v)) ≡ true
-        → Names m (Leaves P m a b) (3 * (h / 3) + (h % 3 + 1) % 3)
+        → Names m (Leaves P m a b) (h / 3) ((h % 3 + 1) % 3)
     unfolding net_of
-    enters r s = (omega arith, subst (Leaves P m a b) (sym (next_is h)) entry)
+    enters r s = (low, omega arith, subst (Leaves P m a b) (sym (next_is h)) entry)
       where
         entry : Leaves P m a b (nxt h)
         entry = record {

@@ -1,5 +1,5 @@
 -- What the search around a corner takes for granted, and what its answers mean. Definitions only.
-use Rattle.std.specs.Prelude.{List, Option, Some, None, ◌⊎◌, ◌≡◌, ℕ, ◌*◌, ◌≤◌, ◌<◌, ℤ, length}
+use Rattle.std.specs.Prelude.{List, Option, Some, None, ◌⊎◌, ◌≡◌, ℕ, ◌+◌, ◌*◌, ◌≤◌, ◌<◌, ℤ, length}
 use Rattle.plane.specs.Halfedges.{nxt}
 use Rattle.plane.specs.Points.{Pt}
 use Rattle.tables.specs.Data.{point_count}
@@ -19,14 +19,14 @@ pub record Ranged (ps : List ℤ) (count : ℕ) (w : List ℕ) : Type 0 where
 abbrev pub Between : Net → ℕ → ℕ → ℕ → Type 0
 Between m a b h = ((m.org h ≡ a) × (dst m h ≡ b)) ⊎ ((m.org h ≡ b) × (dst m h ≡ a))
 
--- half-edge h of the net is such a half-edge
-abbrev pub Names : Net → (ℕ → Type 0) → ℕ → Type 0
-Names m H h = (h < 3 * m.tris) × H h
+-- edge e, which is 0, 1 or 2, of slot t is such a half-edge
+abbrev pub Names : Net → (ℕ → Type 0) → ℕ → ℕ → Type 0
+Names m H t e = (t < m.tris) × (e < 3) × H (3 * t + e)
 
 -- what a triangle has
 abbrev pub Shows : (ℕ → Pt ℤ) → Net → ℕ → ℕ → Around → Type 0
-Shows P m a b (Edge h) = Names m (Between m a b) h
-Shows P m a b (Entry h) = Names m (Leaves P m a b) h
+Shows P m a b (Edge t e) = Names m (Between m a b) t e
+Shows P m a b (Entry t e) = Names m (Leaves P m a b) t e
 
 -- what an answer means, where none means N
 abbrev pub Told : Type 0 → (ℕ → Pt ℤ) → Net → ℕ → ℕ → Option Around → Type 0

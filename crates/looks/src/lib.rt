@@ -7,11 +7,11 @@ ghost use Rattle.nets.specs.Layout.{net_of};
 ghost use Rattle.segments.specs.Near.{Near};
 ghost use Rattle.looks.specs.Around.{Ranged, Told, Passed};
 
-// What a triangle has for a pair: a half-edge between the two points, or the entry edge.
+// What a triangle has for a pair, by the triangle's slot and its edge 0, 1 or 2: an edge between the two points, or the entry edge.
 #[derive(Clone, Copy, Debug, PartialEq, Eq)]
 pub enum Around {
-    Edge(usize),
-    Entry(usize),
+    Edge(usize, usize),
+    Entry(usize, usize),
 }
 
 // What half-edge h of a triangle tells, if it leaves a: both edges of the triangle at a are tried, and the one across.
@@ -36,13 +36,13 @@ pub fn look(
     let u = work[16 * t + (e + 1) % 3] as usize;
     let v = work[16 * t + (e + 2) % 3] as usize;
     if u == b {
-        return Some(Around::Edge(h));
+        return Some(Around::Edge(t, e));
     }
     if v == b {
-        return Some(Around::Edge(3 * t + (e + 2) % 3));
+        return Some(Around::Edge(t, (e + 2) % 3));
     }
     if segments::is_right(points, a, b, u) && segments::is_left(points, a, b, v) {
-        return Some(Around::Entry(3 * t + (e + 1) % 3));
+        return Some(Around::Entry(t, (e + 1) % 3));
     }
     None
 }
