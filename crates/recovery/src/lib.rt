@@ -55,16 +55,15 @@ fn recover_pair(
 {
     let a = pairs[2 * k] as usize;
     let b = pairs[2 * k + 1] as usize;
-    let Some(met) = searches::look_around(points, work, count, a, b) else {
-        return Err(Stuck { pair: k });
+    let met = searches::look_around(points, work, count, a, b);
+    let Some(Around::Edge(t, e)) = met else {
+        let Some(Around::Entry(t, e)) = met else {
+            return Err(Stuck { pair: k });
+        };
+        return recover_line(points, pairs, work, count, k, 3 * t + e);
     };
-    match met {
-        Around::Edge(h) => {
-            carving::mark(work, h);
-            Ok(())
-        }
-        Around::Entry(x) => recover_line(points, pairs, work, count, k, x),
-    }
+    carving::mark(work, 3 * t + e);
+    Ok(())
 }
 
 // All pairs.
