@@ -11,8 +11,9 @@ pub struct Tally {
     differ: u32,
 }
 
+// A count stops at a million.
 fn count(n: &mut u32) {
-    *n = n.saturating_add(1);
+    *n = n.saturating_add(1).min(1_000_000);
 }
 
 impl Tally {
