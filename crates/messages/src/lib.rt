@@ -67,10 +67,10 @@ fn quoted<W: Write>(pen: &mut W, text: &[u8], place: usize) -> Result<()> {
 
 // How many numbers the two counts ask for, and how many words there are; or which of the two counts is missing.
 fn counts<W: Write>(pen: &mut W, text: &[u8]) -> Result<()> {
-    let Ok((n, at)) = texts::take_number::<u32>(text, 0) else {
+    let Ok((n, first)) = texts::take_number::<u32>(text, 0) else {
         return write!(pen, "n, the count of the points, is missing");
     };
-    let Ok((m, _)) = texts::take_number::<u32>(text, at) else {
+    let Ok((m, _)) = texts::take_number::<u32>(text, first.end) else {
         return write!(pen, "m, the count of the pairs, is missing");
     };
     let asked = 2 + 2 * (n as usize) + 2 * (m as usize);

@@ -14,8 +14,8 @@ use std::io::{self, Read};
 
 // The cases, one after the other. The answer is whether the text has no more than the cases.
 fn cases(rt: &impl Print, text: &[u8], tally: &mut Tally) -> Result<bool, Stop> {
-    let (count, from) = texts::take_number::<u32>(text, 0)?;
-    let mut at = from;
+    let (count, word) = texts::take_number::<u32>(text, 0)?;
+    let mut at = word.end;
     for i in 0..count {
         at = reading::case_at(rt, text, at, i as usize, tally)?;
     }

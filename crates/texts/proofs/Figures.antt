@@ -29,13 +29,13 @@ lost (Ok x) d = d
 lost (Err e) d = e
 
 module _ {X Y : Type 0} (v : Bool → ℕ → X) where
-  on_go : (f : X → ℕ → Y) (g : Fault → Y) (r : Result Number Fault) (x : X) (e : ℕ) → entered v r ≡ Ok (x, e) → on_taken r (λ minus n e. f (v minus n) e) g ≡ f x e
-  on_go f g (Ok w) x e h = ap (λ (q : Result (X × ℕ) Fault). f (got q (x, e)).0 (got q (x, e)).1) h
-  on_go f g (Err a) x e h = absurd (false≢true (ap is_ok h))
+  on_go : (f : X → ℕ → Y) (g : Fault → Y) (r : Result Number Fault) (x : X) (w : Number) → entered v r ≡ Ok (x, w) → on_taken r (λ minus n e. f (v minus n) e) g ≡ f x w.end
+  on_go f g (Ok u) x w h = ap (λ (q : Result (X × Number) Fault). f (got q (x, w)).0 (got q (x, w)).1.end) h
+  on_go f g (Err a) x w h = absurd (false≢true (ap is_ok h))
 
   on_stop : (f : Bool → ℕ → ℕ → Y) (g : Fault → Y) (r : Result Number Fault) (a : Fault) → entered v r ≡ Err a → on_taken r f g ≡ g a
   on_stop f g (Ok w) a h = absurd (false≢true (ap is_ok (sym h)))
-  on_stop f g (Err b) a h = ap (λ (q : Result (X × ℕ) Fault). g (lost q a)) h
+  on_stop f g (Err b) a h = ap (λ (q : Result (X × Number) Fault). g (lost q a)) h
 
 -- ---- one number more, of count
 module _ {X : Type 0} (c : Bool) (v : Bool → ℕ → X) (text : List ℕ) (i p count : ℕ) where
@@ -45,20 +45,20 @@ module _ {X : Type 0} (c : Bool) (v : Bool → ℕ → X) (text : List ℕ) (i p
   left : p < count → count - p ≡ suc (count - (p + 1))
   left l = omega arith
 
-  pub read_go : p < count → (x : X) (e : ℕ) → entered v next ≡ Ok (x, e) → read_all c text i (count - p) ≡ read_all c text e (count - (p + 1))
+  pub read_go : p < count → (x : X) (w : Number) → entered v next ≡ Ok (x, w) → read_all c text i (count - p) ≡ read_all c text w.end (count - (p + 1))
   unfolding read_all
-  read_go l x e h = ap (read_all c text i) (left l) ∙ on_go v (λ x e. read_all c text e (count - (p + 1))) (λ a. Err a) next x e h
+  read_go l x w h = ap (read_all c text i) (left l) ∙ on_go v (λ x e. read_all c text e (count - (p + 1))) (λ a. Err a) next x w h
 
   pub read_stop : p < count → (a : Fault) → entered v next ≡ Err a → read_all c text i (count - p) ≡ Err a
   unfolding read_all
   read_stop l a h = ap (read_all c text i) (left l) ∙ on_stop v (λ m n e. read_all c text e (count - (p + 1))) (λ a. Err a) next a h
 
   module _ (xs : List X) where
-    pub put_go : p < count → (x : X) (e : ℕ) → entered v next ≡ Ok (x, e) → put_all c v text i p (count - p) xs ≡ put_all c v text e (p + 1) (count - (p + 1)) (set xs p x)
+    pub put_go : p < count → (x : X) (w : Number) → entered v next ≡ Ok (x, w) → put_all c v text i p (count - p) xs ≡ put_all c v text w.end (p + 1) (count - (p + 1)) (set xs p x)
     unfolding put_all
-    put_go l x e h =
-        ap (λ (k : ℕ). put_all c v text i p k xs) (left l) ∙ on_go v (λ x e. put_all c v text e (suc p) (count - (p + 1)) (set xs p x)) (λ a. xs) next x e h
-        ∙ ap (λ (q : ℕ). put_all c v text e q (count - (p + 1)) (set xs p x)) (sym (add-one p))
+    put_go l x w h =
+        ap (λ (k : ℕ). put_all c v text i p k xs) (left l) ∙ on_go v (λ x e. put_all c v text e (suc p) (count - (p + 1)) (set xs p x)) (λ a. xs) next x w h
+        ∙ ap (λ (q : ℕ). put_all c v text w.end q (count - (p + 1)) (set xs p x)) (sym (add-one p))
 
     pub put_stop : p < count → (a : Fault) → entered v next ≡ Err a → put_all c v text i p (count - p) xs ≡ xs
     unfolding put_all
@@ -132,7 +132,7 @@ module _ (text : List ℕ) (n m i : ℕ) where
     rest_fault l k a h = sym (room l k (Err a) h)
 
 module _ (text : List ℕ) (xs : List ℤ) (ys : List ℕ) where
-  abbrev number : ℕ → Result (ℕ × ℕ) Fault
+  abbrev number : ℕ → Result (ℕ × Number) Fault
   number i = entered unsigned (taken false (next_word text i))
 
   abbrev second : ℕ → ℕ → Outcome
@@ -142,17 +142,17 @@ module _ (text : List ℕ) (xs : List ℤ) (ys : List ℕ) where
   unfolding figure_of
   figure_first a h = sym (on_stop unsigned (λ minus. second) (λ a. outcome (Err a) xs ys) (taken false (next_word text 0)) a h)
 
-  one : (n i : ℕ) → number 0 ≡ Ok (n, i) → figure_of text xs ys ≡ second n i
+  one : (n : ℕ) (w : Number) → number 0 ≡ Ok (n, w) → figure_of text xs ys ≡ second n w.end
   unfolding figure_of
-  one n i h = on_go unsigned second (λ a. outcome (Err a) xs ys) (taken false (next_word text 0)) n i h
+  one n w h = on_go unsigned second (λ a. outcome (Err a) xs ys) (taken false (next_word text 0)) n w h
 
-  pub figure_second : (n i : ℕ) → number 0 ≡ Ok (n, i) → (a : Fault) → number i ≡ Err a → outcome (Err a) xs ys ≡ figure_of text xs ys
-  figure_second n i h a k =
-      sym (one n i h ∙ on_stop unsigned (λ minus m j. rest_of text n m j xs ys) (λ a. outcome (Err a) xs ys) (taken false (next_word text i)) a k)
+  pub figure_second : (n : ℕ) (w : Number) → number 0 ≡ Ok (n, w) → (a : Fault) → number w.end ≡ Err a → outcome (Err a) xs ys ≡ figure_of text xs ys
+  figure_second n w h a k =
+      sym (one n w h ∙ on_stop unsigned (λ minus m j. rest_of text n m j xs ys) (λ a. outcome (Err a) xs ys) (taken false (next_word text w.end)) a k)
 
-  pub figure_rest : (n i : ℕ) → number 0 ≡ Ok (n, i) → (m j : ℕ) → number i ≡ Ok (m, j) → rest_of text n m j xs ys ≡ figure_of text xs ys
-  figure_rest n i h m j k =
-      sym (one n i h ∙ on_go unsigned (λ m j. rest_of text n m j xs ys) (λ a. outcome (Err a) xs ys) (taken false (next_word text i)) m j k)
+  pub figure_rest : (n : ℕ) (w : Number) → number 0 ≡ Ok (n, w) → (m : ℕ) (u : Number) → number w.end ≡ Ok (m, u) → rest_of text n m u.end xs ys ≡ figure_of text xs ys
+  figure_rest n w h m u k =
+      sym (one n w h ∙ on_go unsigned (λ m j. rest_of text n m j xs ys) (λ a. outcome (Err a) xs ys) (taken false (next_word text w.end)) m u k)
 
 pub same_outcome : (a a' : Result Figure Fault) (xs xs' : List ℤ) (ys ys' : List ℕ) → a ≡ a' → xs ≡ xs' → ys ≡ ys' → outcome a xs ys ≡ outcome a' xs' ys'
 same_outcome a a' xs xs' ys ys' p q r =

@@ -31,9 +31,10 @@ abbrev pub on_taken : {X : Type 0} → Result Number Fault → (Bool → ℕ →
 on_taken (Ok w) f g = f w.minus w.size w.end
 on_taken (Err a) f g = g a
 
--- the number of that word, and the place after it
-abbrev pub entered : {X : Type 0} → (Bool → ℕ → X) → Result Number Fault → Result (X × ℕ) Fault
-entered value r = on_taken r (λ minus n e. Ok (value minus n, e)) (λ a. Err a)
+-- the number of that word, and the word
+abbrev pub entered : {X : Type 0} → (Bool → ℕ → X) → Result Number Fault → Result (X × Number) Fault
+entered value (Ok w) = Ok (value w.minus w.size, w)
+entered value (Err a) = Err a
 
 abbrev pub on_all : {X : Type 0} → Result ℕ Fault → (ℕ → X) → (Fault → X) → X
 on_all (Ok i) f g = f i

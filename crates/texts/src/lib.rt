@@ -180,15 +180,15 @@ pub fn next_word(text: &[u8], from: usize) -> Result<Option<Number>, Fault>
     word_at(text, start, end).map(Some)
 }
 
-// The next number, and the place after its word.
-pub fn take_number<T: Entry>(text: &[u8], from: usize) -> Result<(T, usize), Fault>
+// The next number, and its word, which has the sign too: of a count -0 is the number 0.
+pub fn take_number<T: Entry>(text: &[u8], from: usize) -> Result<(T, Number), Fault>
     ensures { result ≡ entered T.value (taken T.coordinate (next_word text.now from)) }
 {
     let Some(word) = next_word(text, from)? else {
         return Err(Fault::TooFew);
     };
     match T::entry(word.minus, word.size) {
-        Some(value) => Ok((value, word.end)),
+        Some(value) => Ok((value, word)),
         None => Err(Fault::DoesNotFit(word.start)),
     }
 }
@@ -206,9 +206,9 @@ pub fn read_numbers<T: Entry>(
 {
     let mut at = from;
     for p in 0..count {
-        let (value, next) = take_number(text, at)?;
+        let (value, word) = take_number(text, at)?;
         list[p] = value;
-        at = next;
+        at = word.end;
     }
     Ok(at)
 }
@@ -228,14 +228,14 @@ fn finish(text: &[u8], at: usize, figure: Figure) -> Result<Figure, Fault>
 pub fn read_figure(text: &[u8], points: &mut [i32], pairs: &mut [u32]) -> Result<Figure, Fault>
     ensures { outcome result points.new pairs.new ≡ figure_of text.now points.old pairs.old }
 {
-    let (n, at) = take_number::<u32>(text, 0)?;
-    let (m, at) = take_number::<u32>(text, at)?;
+    let (n, word) = take_number::<u32>(text, 0)?;
+    let (m, word) = take_number::<u32>(text, word.end)?;
     let n = n as usize;
     let m = m as usize;
     if points.len() < 2 * n || pairs.len() < 2 * m {
         return Err(Fault::NoRoom);
     }
-    let at = read_numbers(text, at, points, 2 * n)?;
+    let at = read_numbers(text, word.end, points, 2 * n)?;
     let at = read_numbers(text, at, pairs, 2 * m)?;
     finish(
         text,
