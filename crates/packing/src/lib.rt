@@ -2,7 +2,7 @@
 #![tactic(auto)]
 
 ghost use Rattle.std.specs.Prelude.{◌≡◌, ◌<◌, ◌≤◌, ◌+◌, ◌*◌};
-ghost use Rattle.tables.specs.Answers.{of_refusal, of_verdict};
+ghost use Rattle.tables.specs.Answers.{breaks, of_refusal, of_verdict};
 ghost use Rattle.row_numbers.specs.Numbers.{value_in, place_of};
 ghost use Rattle.packing.specs.Packed.{shift, packed};
 
@@ -23,6 +23,13 @@ pub fn refusal(r: Refusal) -> u64
     halves(row_numbers::number(r), row_numbers::place(r))
 }
 
+// The number of a broken rule, which may be any number.
+pub fn broken(rule: u32) -> u64
+    ensures { result ≡ packed (breaks rule) }
+{
+    rule as u64
+}
+
 // 0 for yes, the number of the lowest broken rule, or a refusal's number and its place.
 pub fn verdict(answer: Result<(), Objection>) -> u64
     requires { value_in (of_verdict answer) < shift }
@@ -30,7 +37,7 @@ pub fn verdict(answer: Result<(), Objection>) -> u64
 {
     match answer {
         Ok(()) => 0,
-        Err(Objection::Breaks(rule)) => rule as u64,
+        Err(Objection::Breaks(rule)) => broken(rule as u32),
         Err(Objection::Refused(r)) => refusal(r),
     }
 }

@@ -60,10 +60,15 @@ pub fn refused(rt: &impl Print, r: Refusal) -> io::Result<()> {
     )
 }
 
+// A broken rule, by any number.
+pub fn broken(rt: &impl Print, rule: u32) -> io::Result<()> {
+    print!(rt; "breaks rule {rule}")
+}
+
 pub fn verdict(rt: &impl Print, answer: Result<(), Objection>) -> io::Result<()> {
     match answer {
         Ok(()) => rt.print("yes"),
-        Err(Objection::Breaks(rule)) => print!(rt; "breaks rule {}", rule as u32),
+        Err(Objection::Breaks(rule)) => broken(rt, rule as u32),
         Err(Objection::Refused(r)) => refused(rt, r),
     }
 }
