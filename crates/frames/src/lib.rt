@@ -68,7 +68,18 @@ pub struct Frame {
     pub dots_high: usize,
     // The size of the numbers, in thousandths: the more points, the smaller. The other sizes are parts of it.
     pub letter: usize,
+    // The base's corners are within the limit, and the margin is at most 1,366.
+    ghost near_left: { (neg_ℤ (pos 9558) ≤ℤ left) × (left ≤ℤ pos 8191) },
+    ghost near_top: { (neg_ℤ (pos 9558) ≤ℤ top) × (top ≤ℤ pos 8191) },
     ghost small: { (width ≤ 100000) × (height ≤ 100000) },
+}
+
+// An edge of the frame, a margin before the base's outermost corner.
+fn edge(corner: i32, margin: usize) -> i64
+    requires { (neg_ℤ (pos 8192) ≤ℤ corner) × (corner ≤ℤ pos 8192) × (1 ≤ margin) × (margin ≤ 1366) }
+    ensures { (neg_ℤ (pos 9558) ≤ℤ result) × (result ≤ℤ pos 8191) }
+{
+    corner as i64 - margin as i64
 }
 
 impl Frame {
@@ -90,8 +101,8 @@ impl Frame {
         let height = tall + 2 * margin;
         let longer = width.max(height);
         Frame {
-            left: (left as i64).saturating_sub(margin as i64),
-            top: (-(high as i64)).saturating_sub(margin as i64),
+            left: edge(left, margin),
+            top: edge(-high, margin),
             width,
             height,
             dots_wide: 720 * width / longer,
