@@ -22,7 +22,7 @@ fn sheet_line<O: Write + Drop>(out: O, list: &[u32]) -> Result<()> {
         write!(pen, " {corner}")?;
     }
     writeln!(pen)?;
-    pen.flush()
+    pen.finish()
 }
 
 fn sheet_picture<O: Write + Drop>(
@@ -32,8 +32,8 @@ fn sheet_picture<O: Write + Drop>(
     list: &[u32],
 ) -> Result<()> {
     let mut pen = Pen::new(out);
-    pictures::draw(&mut pen, points, pairs, list)?;
-    pen.flush()
+    pictures::draw(&mut pen, points, pairs, list);
+    pen.finish()
 }
 
 fn refusal_line<O: Write + Drop>(out: O, r: Refusal) -> Result<()> {
@@ -41,7 +41,7 @@ fn refusal_line<O: Write + Drop>(out: O, r: Refusal) -> Result<()> {
     let number = row_numbers::number(r);
     let place = row_numbers::place(r);
     writeln!(pen, "0 {number} {place}")?;
-    pen.flush()
+    pen.finish()
 }
 
 pub fn sheet<O: Write + Drop, E: Write + Drop>(

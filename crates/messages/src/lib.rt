@@ -167,7 +167,7 @@ where
     start(&mut pen, name)?;
     say(&mut pen)?;
     writeln!(pen)?;
-    pen.flush()
+    pen.finish()
 }
 
 // A message with no place in a text. What does not go out of a message is lost: there is nowhere left to say so.

@@ -2,6 +2,7 @@
 #![tactic(auto)]
 
 use frames::{Frame, Place, Thousandths};
+use pages::Pen;
 use std::io::{Result, Write};
 
 fn head<W: Write>(pen: &mut W, frame: &Frame) -> Result<()> {
@@ -110,7 +111,13 @@ fn marks<W: Write>(pen: &mut W, points: &[i32], unit: usize) -> Result<()> {
     writeln!(pen, "</g>")
 }
 
-pub fn draw<W: Write>(pen: &mut W, points: &[i32], pairs: &[u32], list: &[u32]) -> Result<()> {
+// The picture, as far as its writes succeed.
+pub fn write_picture<W: Write>(
+    pen: &mut W,
+    points: &[i32],
+    pairs: &[u32],
+    list: &[u32],
+) -> Result<()> {
     let frame = Frame::of(points);
     head(pen, &frame)?;
     writeln!(
@@ -120,4 +127,9 @@ pub fn draw<W: Write>(pen: &mut W, points: &[i32], pairs: &[u32], list: &[u32]) 
     strokes(pen, points, pairs, list, frame.letter)?;
     marks(pen, points, frame.letter)?;
     writeln!(pen, "</svg>")
+}
+
+// A pen takes all that it is given, and tells at its end whether that went out.
+pub fn draw<W: Write>(pen: &mut Pen<W>, points: &[i32], pairs: &[u32], list: &[u32]) {
+    let _ = write_picture(pen, points, pairs, list);
 }
