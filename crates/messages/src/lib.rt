@@ -2,6 +2,7 @@
 #![tactic(auto)]
 
 use pages::Pen;
+use std::convert::AsSlice;
 use std::fmt;
 use std::io::{Result, Write};
 use tables::Refusal;
@@ -171,8 +172,9 @@ where
 }
 
 // A message with no place in a text. What does not go out of a message is lost: there is nowhere left to say so.
-pub fn plain<W: Write + Drop>(err: W, name: &[u8], what: &str) {
-    let _ = try_line(err, name, |pen| write!(pen, "{what}"));
+pub fn plain<W: Write + Drop, S: AsSlice<u8> + Drop>(err: W, name: &[u8], what: S) {
+    let what = what.as_slice();
+    let _ = try_line(err, name, |pen| pen.write_all(what));
 }
 
 // What is wrong with a text, and where.
