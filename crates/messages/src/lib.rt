@@ -10,7 +10,7 @@ use texts::Fault;
 
 // The line and the column of a place, both from 1; a column is a byte.
 #[derive(Clone, Copy, Debug, PartialEq, Eq)]
-struct Spot {
+pub struct Spot {
     line: usize,
     column: usize,
 }
