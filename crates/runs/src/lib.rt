@@ -3,6 +3,7 @@
 #![tactic(auto)]
 
 use reports::MARK;
+use std::convert::AsSlice;
 use std::io;
 
 // The checker writes in the working area too, so it is asked after what the cutter left there is told.
@@ -21,17 +22,18 @@ fn judge(
     trials::verdict(rt, points, pairs, &out[..3 * count], work)
 }
 
-// A figure that is cut.
+// A figure that is cut. Its name is text or bytes.
 #[derive(Clone, Copy)]
-pub struct Run<'a> {
-    pub name: &'a str,
+pub struct Run<'a, N = &'a str> {
+    pub name: N,
     pub points: &'a [i32],
     pub pairs: &'a [u32],
 }
 
-impl Run<'_> {
-    pub fn cut(self, rt: &impl Print, out: &mut [u32], work: &mut [u32]) -> io::Result<()> {
-        print!(rt; "{}: ", self.name)?;
+impl<N: AsSlice<u8>> Run<'_, N> {
+    pub fn cut(&self, rt: &impl Print, out: &mut [u32], work: &mut [u32]) -> io::Result<()> {
+        rt.write_all(self.name.as_slice())?;
+        rt.print(": ")?;
         let answer = cutter::cut(self.points, self.pairs, out, work);
         match answer {
             Ok(count) => {
@@ -53,7 +55,7 @@ impl Run<'_> {
 }
 
 // Figures of at most seventeen points, with more room than they need.
-pub fn small(rt: &impl Print, runs: &[Run<'_>]) -> io::Result<()> {
+pub fn small<N: AsSlice<u8>>(rt: &impl Print, runs: &[Run<'_, N>]) -> io::Result<()> {
     for run in runs {
         run.cut(rt, &mut [MARK; 90], &mut [MARK; 1100])?;
     }
