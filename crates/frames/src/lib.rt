@@ -3,13 +3,15 @@
 
 ghost use Rattle.std.specs.Prelude.{◌≤◌, ◌≤ℤ◌, pos, neg_ℤ};
 
+use signs::LIMIT;
 use std::fmt;
 
-// A coordinate of the list. A sheet's list has all that are asked for, and each is within the limit.
+// A coordinate of the list, or 0 for one that it lacks or that is beyond the limit. A sheet's list has all that are asked for, and each is within it.
 fn coordinate(points: &[i32], i: usize) -> i32
     ensures { (neg_ℤ (pos 8192) ≤ℤ result) × (result ≤ℤ pos 8192) }
 {
-    points.get(i).copied().unwrap_or(0).clamp(-8192, 8192)
+    let z = points.get(i).copied().unwrap_or(0);
+    if -LIMIT <= z && z <= LIMIT { z } else { 0 }
 }
 
 // Where a point is. It is printed as `x y`, so it is no `signs::Point`, which has no text.
