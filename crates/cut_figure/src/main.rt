@@ -57,7 +57,8 @@ impl Task<'_> {
         self.read(text, &mut points, &mut pairs);
     }
 
-    // The list has one byte more than a text may have.
+    // The list has one byte more than a text may have. Merged into `main`, it would take that room of the stack for `--help` too.
+    #[inline(never)]
     fn of_input(self, input: &mut impl Read) {
         let mut text = [0u8; 524289];
         let err = self.rt.stderr();

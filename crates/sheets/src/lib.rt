@@ -26,12 +26,15 @@ fn gather(work: &mut [u32], lo: usize, count: usize)
     }
 }
 
-// The n numbers from lo on are copied to the front of `out`.
+// The n numbers from lo on are copied to the front of `out`. A loop, since `copy_from_slice` would ask a program that links the library for
+// memmove.
 fn hand_out(work: &[u32], lo: usize, n: usize, out: &mut [u32])
     requires { (lo + n ≤ length work.now) × (n ≤ length out.old) }
     ensures { Copied work.now lo n out.old out.new }
 {
-    out[..n].copy_from_slice(&work[lo..lo + n]);
+    for k in 0..n {
+        out[k] = work[lo + k];
+    }
 }
 
 // Writes the triangles of the first `count` slots to the front of `out`, in house order. The items stand behind the slots of the working
